@@ -1,0 +1,6 @@
+pub mod Text
+pub mod Name
+pub mod Hash
+pub mod Digits
+pub mod Plain
+pub mod Place

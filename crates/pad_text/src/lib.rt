@@ -1,0 +1,17 @@
+//! Texts as UTF-16 units, and SHA-256 names.
+#![tactic(auto)]
+
+mod digits;
+mod laws;
+mod name;
+mod plain_text;
+mod text;
+
+pub use digits::is_lower_hex;
+pub use laws::{names_are_ordered_by_digits, texts_are_kept_by_cuts, texts_are_kept_by_utf8};
+pub use name::Name;
+pub use plain_text::plain;
+pub use text::Text;
+
+#[cfg(test)]
+mod tests;
