@@ -1,0 +1,6 @@
+pub mod Elements
+pub mod Cuts
+pub mod Laid
+pub mod Copies
+pub mod Misfits
+pub mod Inverses

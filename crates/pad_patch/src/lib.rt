@@ -1,0 +1,20 @@
+//! Patches of texts: operations, when they fit, and the text after them.
+#![tactic(auto)]
+
+pub mod laws;
+mod misfit;
+mod operation;
+mod operations;
+mod patch;
+mod unit_store;
+mod vec_units;
+
+pub use misfit::Misfit;
+pub use operation::Operation;
+pub use operations::Operations;
+pub use patch::Patch;
+pub use unit_store::UnitStore;
+pub use vec_units::VecUnits;
+
+#[cfg(test)]
+mod tests;
