@@ -1,0 +1,5 @@
+pub mod Arrays
+pub mod Names
+pub mod Values
+pub mod RoundTrip
+pub mod OneMessage
