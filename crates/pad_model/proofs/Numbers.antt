@@ -1,0 +1,146 @@
+-- How many different things there are: one more, the same, and as many as the keys that tell them apart.
+use Rattle.std.proofs.Common.{◌≡◌, ◌≢◌, ◌↔◌, ℕ, ◌+◌, ◌-◌, ◌⊎◌, inl, inr, List, [], ◌∷◌, ◌++◌, length, map, Contains, refl, sym, ap, ap₂, ◌∙◌, subst, arith, length-append}
+use Rattle.std.proofs.lemmas.List.{length-map}
+use Rattle.std.proofs.lemmas.List.Elements.{Contains-append_right, Contains-push_cases}
+use Rattle.pad_model.specs.Count.{NoRepeat, IsNumberOf}
+use Rattle.pad_model.proofs.Members.{contains_head, contains_more, contains_cases, contains_none, contains_middle, Split, split, distinct_short}
+
+-- ---- lists without repeats
+
+pub no_repeat_front : {A : Type 0} (xs : List A) (y : A) (ys : List A) → NoRepeat (xs ++ y ∷ ys) → ¬ (Contains xs y)
+no_repeat_front [] y ys h c = contains_none y c
+no_repeat_front (x ∷ xs) y ys h c = go (contains_cases x xs y c) (no_repeat_front xs y ys h.1)
+  where
+    go : (x ≡ y) ⊎ Contains xs y → ¬ (Contains xs y) → ⊥
+    go (inl e) rest = h.0 (subst (Contains (xs ++ y ∷ ys)) (sym e) (Contains-append_right xs (y ∷ ys) y (contains_head y ys)))
+    go (inr k) rest = rest k
+
+pub no_repeat_push : {A : Type 0} (xs : List A) (y : A) → NoRepeat xs → ¬ (Contains xs y) → NoRepeat (xs ++ y ∷ [])
+no_repeat_push [] y h n = (λ c. contains_none y c, tt)
+no_repeat_push {A = A} (x ∷ xs) y h n = (λ c. go (Contains-push_cases xs y x c), no_repeat_push xs y h.1 (λ c. n (contains_more x xs y c)))
+  where
+    go : Contains xs x ⊎ (y ≡ x) → ⊥
+    go (inl k) = h.0 k
+    go (inr e) = n (subst (Contains (x ∷ xs)) (sym e) (contains_head x xs))
+
+contains_around : {A : Type 0} (x z : A) (us vs : List A) → Contains (us ++ vs) z → Contains (us ++ x ∷ vs) z
+contains_around x z [] vs h = contains_more x vs z h
+contains_around {A = A} x z (u ∷ us) vs h = go (contains_cases u (us ++ vs) z h) (contains_around x z us vs)
+  where
+    go : (u ≡ z) ⊎ Contains (us ++ vs) z → (Contains (us ++ vs) z → Contains (us ++ x ∷ vs) z) → Contains (u ∷ us ++ x ∷ vs) z
+    go (inl e) rest = subst (Contains (u ∷ us ++ x ∷ vs)) e (contains_head u (us ++ x ∷ vs))
+    go (inr k) rest = contains_more u (us ++ x ∷ vs) z (rest k)
+
+no_repeat_without : {A : Type 0} (x : A) (us vs : List A) → NoRepeat (us ++ x ∷ vs) → NoRepeat (us ++ vs) × ¬ (Contains (us ++ vs) x)
+no_repeat_without x [] vs h = (h.1, h.0)
+no_repeat_without {A = A} x (u ∷ us) vs h = go (no_repeat_without x us vs h.1)
+  where
+    not_head : ¬ (Contains (us ++ vs) x) → (u ≡ x) ⊎ Contains (us ++ vs) x → ⊥
+    not_head k (inl e) = h.0 (subst (Contains (us ++ x ∷ vs)) (sym e) (Contains-append_right us (x ∷ vs) x (contains_head x vs)))
+    not_head k (inr c) = k c
+
+    go : NoRepeat (us ++ vs) × ¬ (Contains (us ++ vs) x) → NoRepeat (u ∷ us ++ vs) × ¬ (Contains (u ∷ us ++ vs) x)
+    go (rest, k) = ((λ c. h.0 (contains_around x u us vs c), rest), λ c. not_head k (contains_cases u (us ++ vs) x c))
+
+-- ---- counts
+
+pub one_number : {A : Type 0} (P : A → Type 0) (n k : ℕ) → IsNumberOf P n → IsNumberOf P k → n ≡ k
+one_number P n k h g =
+    omega (arith, h.many, g.many, distinct_short h.all g.all h.once (λ x c. (g.these x).1 ((h.these x).0 c)), distinct_short g.all h.all g.once (λ x c. (h.these x).1 ((g.these x).0 c)))
+
+pub number_none : {A : Type 0} (P : A → Type 0) → ((x : A) → ¬ (P x)) → IsNumberOf P 0
+number_none P h = record { all = []; once = tt; these = λ x. (λ c. absurd (contains_none x c), λ p. absurd (h x p)); many = refl }
+
+pub number_same : {A : Type 0} (P Q : A → Type 0) (n : ℕ) → ((x : A) → P x ↔ Q x) → IsNumberOf P n → IsNumberOf Q n
+number_same P Q n e h = record { all = h.all; once = h.once; these = λ x. (λ c. (e x).0 ((h.these x).0 c), λ q. (h.these x).1 ((e x).1 q)); many = h.many }
+
+pub number_more : {A : Type 0} (P : A → Type 0) (n : ℕ) (new : A) → ¬ (P new) → IsNumberOf P n → IsNumberOf (λ x. (new ≡ x) ⊎ P x) (n + 1)
+number_more {A = A} P n new fresh h = record {
+  all = new ∷ h.all;
+  once = (λ c. fresh ((h.these new).0 c), h.once);
+  these = λ x. (λ c. to x (contains_cases new h.all x c), from x);
+  many = omega (arith, h.many);
+}
+  where
+    to : (x : A) → (new ≡ x) ⊎ Contains h.all x → (new ≡ x) ⊎ P x
+    to x (inl e) = inl e
+    to x (inr c) = inr ((h.these x).0 c)
+
+    from : (x : A) → (new ≡ x) ⊎ P x → Contains (new ∷ h.all) x
+    from x (inl e) = subst (Contains (new ∷ h.all)) e (contains_head new h.all)
+    from x (inr p) = contains_more new h.all x ((h.these x).1 p)
+
+pub number_listed : {A : Type 0} (xs : List A) → NoRepeat xs → IsNumberOf (Contains xs) (length xs)
+number_listed xs h = record { all = xs; once = h; these = λ x. (λ c. c, λ c. c); many = refl }
+
+-- one less, without a member
+pub number_without : {A : Type 0} (xs : List A) (x : A) → NoRepeat xs → Contains xs x → IsNumberOf (λ y. Contains xs y × (y ≢ x)) (length xs - 1)
+number_without {A = A} xs x once c = go (split x xs c)
+  where
+    go : Split x xs → IsNumberOf (λ y. Contains xs y × (y ≢ x)) (length xs - 1)
+    go s = record {
+      all = s.before ++ s.after;
+      once = rest.0;
+      these = λ y. (λ k. (subst (λ w. Contains w y) (sym s.whole) (contains_around x y s.before s.after k), λ e. rest.1 (subst (Contains (s.before ++ s.after)) e k)), λ h. from y h.1 (contains_middle x y s.before s.after (subst (λ w. Contains w y) s.whole h.0)));
+      many = omega (arith, ap length s.whole, length-append s.before (x ∷ s.after), length-append s.before s.after);
+    }
+      where
+        rest : NoRepeat (s.before ++ s.after) × ¬ (Contains (s.before ++ s.after) x)
+        rest = no_repeat_without x s.before s.after (subst NoRepeat s.whole once)
+
+        from : (y : A) → (y ≢ x) → (x ≡ y) ⊎ Contains (s.before ++ s.after) y → Contains (s.before ++ s.after) y
+        from y k (inl e) = absurd (k (sym e))
+        from y k (inr h) = h
+
+-- ---- things by their keys
+
+pub contains_map : {X Y : Type 0} (f : X → Y) (xs : List X) (x : X) → Contains xs x → Contains (map f xs) (f x)
+contains_map f [] x h = absurd (contains_none x h)
+contains_map {X = X} {Y = Y} f (z ∷ xs) x h = go (contains_cases z xs x h) (contains_map f xs x)
+  where
+    go : (z ≡ x) ⊎ Contains xs x → (Contains xs x → Contains (map f xs) (f x)) → Contains (f z ∷ map f xs) (f x)
+    go (inl e) rest = subst (λ w. Contains (f z ∷ map f xs) (f w)) e (contains_head (f z) (map f xs))
+    go (inr k) rest = contains_more (f z) (map f xs) (f x) (rest k)
+
+pub mapped_from : {X Y : Type 0} (f : X → Y) (xs : List X) (y : Y) → Contains (map f xs) y → (x : X) × Contains xs x × (f x ≡ y)
+mapped_from f [] y h = absurd (contains_none y h)
+mapped_from {X = X} {Y = Y} f (z ∷ xs) y h = go (contains_cases (f z) (map f xs) y h) (mapped_from f xs y)
+  where
+    go : (f z ≡ y) ⊎ Contains (map f xs) y → (Contains (map f xs) y → (x : X) × Contains xs x × (f x ≡ y)) → (x : X) × Contains (z ∷ xs) x × (f x ≡ y)
+    go (inl e) rest = (z, contains_head z xs, e)
+    go (inr k) rest = let r = rest k in (r.0, contains_more z xs r.0 r.1, r.2)
+
+no_repeat_by : {X Y : Type 0} (f : X → Y) (xs : List X) → NoRepeat (map f xs) → NoRepeat xs
+no_repeat_by f [] h = tt
+no_repeat_by f (x ∷ xs) h = (λ c. h.0 (contains_map f xs x c), no_repeat_by f xs h.1)
+
+-- things of P with these keys, in their order
+record Picked {X Y : Type 0} (f : X → Y) (P : X → Type 0) (all : List Y) : Type 0 where
+  things : List X
+  same : map f things ≡ all
+  good : (x : X) → Contains things x → P x
+
+pick : {X Y : Type 0} (f : X → Y) (P : X → Type 0) (all : List Y) → ((y : Y) → Contains all y → (x : X) × P x × (f x ≡ y)) → Picked f P all
+pick f P [] h = record { things = []; same = refl; good = λ x c. absurd (contains_none x c) }
+pick {X = X} f P (y ∷ all) h =
+    let (x, p, e) = h y (contains_head y all) in
+    let rest = pick f P all (λ z c. h z (contains_more y all z c)) in
+    record { things = x ∷ rest.things; same = ap₂ ◌∷◌ e rest.same; good = λ z c. go x rest.things p rest.good z (contains_cases x rest.things z c) }
+  where
+    go : (x : X) (xs : List X) → P x → ((z : X) → Contains xs z → P z) → (z : X) → (x ≡ z) ⊎ Contains xs z → P z
+    go x xs p good z (inl e) = subst P e p
+    go x xs p good z (inr c) = good z c
+
+-- as many things as keys, where a key has one thing
+pub number_by_key : {X Y : Type 0} (f : X → Y) (P : X → Type 0) (keys : List Y) → NoRepeat keys → ((x z : X) → P x → P z → f x ≡ f z → x ≡ z) → ((y : Y) → Contains keys y → (x : X) × P x × (f x ≡ y)) → ((x : X) → P x → Contains keys (f x)) → IsNumberOf P (length keys)
+number_by_key {X = X} f P keys once one things key =
+    let k = pick f P keys things in
+    record {
+      all = k.things;
+      once = no_repeat_by f k.things (subst NoRepeat (sym k.same) once);
+      these = λ x. (k.good x, λ p. found k.things k.good x p (mapped_from f k.things (f x) (subst (λ ys. Contains ys (f x)) (sym k.same) (key x p))));
+      many = ap length (sym k.same) ∙ length-map k.things f;
+    }
+  where
+    found : (things : List X) → ((x : X) → Contains things x → P x) → (x : X) → P x → (z : X) × Contains things z × (f z ≡ f x) → Contains things x
+    found things good x p (z, c, e) = subst (Contains things) (one z x (good z c) p e) c

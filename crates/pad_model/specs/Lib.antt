@@ -1,0 +1,10 @@
+pub mod Sound
+pub mod Path
+pub mod Best
+pub mod Count
+pub mod Report
+pub mod Messages
+pub mod Walk
+pub mod Links
+pub mod Summary
+pub mod Laws

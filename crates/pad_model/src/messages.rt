@@ -1,0 +1,105 @@
+ghost use Rattle.std.specs.Prelude.{◌≡◌, ◌≤◌, [], ◌∷◌, ◌++◌, length, MatchOption, OnOk, OnErr};
+ghost use Rattle.pad_message.specs.Content.{most_operations};
+
+use crate::base::Base;
+use pad_message::Message;
+use pad_text::Name;
+use std::alloc::{AllocError, Global};
+use std::collections::BTreeMap;
+use std::marker::Model;
+
+/// Messages received, in the order in which they came. Contracts see the list.
+#[derive(Drop)]
+pub struct Messages {
+    items: Vec<Message>,
+    places: BTreeMap<Name, usize>,
+}
+
+impl Model for Messages {
+    ghost use Rattle.std.specs.Prelude.{List};
+    ghost use Rattle.pad_message.specs.declared.message.Message.{Message};
+
+    ghost Value = { List Message };
+
+    ghost use Rattle.pad_model.specs.Messages.{HasTable};
+
+    ghost view = { λ messages. messages.items.items };
+
+    ghost invariant = { HasTable };
+}
+
+impl Messages {
+    ghost use Rattle.pad_message.specs.Message.{name_of};
+    ghost use Rattle.pad_model.specs.Count.{IsNumberOf, IsKnown};
+    ghost use Rattle.pad_model.specs.Messages.{IsPlaceOf, IsTableOf};
+
+    /// No messages.
+    pub fn new(alloc: Global) -> Messages
+        ensures { result ≡ [] }
+    {
+        Messages {
+            items: Vec::new(alloc),
+            places: BTreeMap::new(alloc),
+        }
+    }
+
+    /// Lends the messages.
+    pub fn as_slice(&self) -> &[Message]
+        ensures { result.now ≡ self.now }
+    {
+        self.items.as_slice()
+    }
+
+    /// Adds a message at the end. It is unchanged where there is no memory.
+    pub fn push(&mut self, alloc: Global, message: Message) -> Result<(), AllocError>
+        requires { length message.patch.ops ≤ most_operations }
+        ensures ok { OnOk result (self.new ≡ self.old ++ message ∷ []) }
+        ensures err { OnErr result (self.new ≡ self.old) }
+    {
+        let name = message.name(alloc)?;
+        self.push_named(message, name)
+    }
+
+    /// Adds a message at the end, whose name the caller has. It is unchanged where there is no memory.
+    pub fn push_named(&mut self, message: Message, name: Name) -> Result<(), AllocError>
+        requires { name ≡ name_of message }
+        ensures ok { OnOk result (self.new ≡ self.old ++ message ∷ []) }
+        ensures err { OnErr result (self.new ≡ self.old) }
+    {
+        let place = self.items.as_slice().len();
+        self.items.push(message)?;
+        match self.places.insert(name, place) {
+            Ok(_) => Ok(()),
+            Err(_) => {
+                let _ = self.items.pop();
+                Err(AllocError)
+            }
+        }
+    }
+
+    /// How many different names they have, the base's not counted.
+    pub fn known(&self, base: &Base) -> usize
+        ensures { IsNumberOf (IsKnown base.now self.now) result }
+    {
+        let names = self.places.len();
+        if self.places.contains_key(&base.name) {
+            names - 1
+        } else {
+            names
+        }
+    }
+
+    /// The places of messages, one for each name.
+    pub(crate) fn places(&self) -> &BTreeMap<Name, usize>
+        ensures { IsTableOf self.now result.now }
+    {
+        &self.places
+    }
+
+    /// The place of a message with this name. None where no message has it.
+    pub fn place_of(&self, name: &Name) -> Option<usize>
+        ensures { IsPlaceOf self.now name.now result }
+    {
+        self.places.get(name).copied()
+    }
+}
