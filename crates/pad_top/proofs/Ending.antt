@@ -1,0 +1,49 @@
+-- How a replay ends, and a run with it.
+use Rattle.std.proofs.Common.{◌≡◌, ℕ, ◌≤◌, ◌⊎◌, inl, inr, List, [], length, Option, None, Some, IfSome, refl, sym, ap, subst, ◌∙◌}
+use Rattle.std.specs.Io.KnownBytes.{Appends}
+use Rattle.pad_message.specs.declared.message.Message.{Message}
+use Rattle.pad_model.specs.Path.{NamesDiffer}
+use Rattle.pad_model.specs.Report.{IsReport}
+use Rattle.pad_top.specs.declared.refused.ReplayRefused.{ReplayRefused}
+use Rattle.pad_top.specs.declared.refused.ReplayRefused.TheVariants as refused
+use Rattle.pad_top.specs.declared.status.Status.{Status}
+use Rattle.pad_top.specs.declared.status.Status.TheVariants as status
+use Rattle.pad_top.specs.Input.{most_bytes, IsToldAs}
+use Rattle.pad_top.specs.Line.{lines_of}
+use Rattle.pad_top.specs.Received.{first_base, IsReceived, IsAccepted}
+use Rattle.pad_top.specs.Refusal.{IsReplayRefusal, status_of}
+use Rattle.pad_top.specs.Replay.{IsReplayed}
+use Rattle.pad_top.specs.Run.{Ends, IsCutShort, IsEnd}
+use Rattle.pad_top.specs.Status.{status_line}
+use Rattle.pad_top.specs.Words.{IsReplay}
+
+-- what holds of the bytes that were read holds of those that the source told
+pub told : (left : Option (List ℕ)) (bytes : List ℕ) (P : List ℕ → Type 0) → IsToldAs left bytes → P bytes → IfSome left P
+told None bytes P is holds = tt
+told (Some all) bytes P is holds = subst P (sym is) holds
+
+-- the report of what was received is that of the input
+pub replayed : (input output : List ℕ) (messages : List Message) (unreadable : ℕ) → length input ≤ most_bytes → IsReceived (lines_of input) messages unreadable
+    → IsAccepted messages → (NamesDiffer messages → IsReport first_base messages unreadable output) → IsReplayed input output
+replayed input output messages unreadable short received accepted report = record {
+  short = short;
+  messages = messages;
+  unreadable = unreadable;
+  taken = record { received = received; accepted = accepted };
+  report = report;
+}
+
+-- the end of a replay without a report
+pub refusal_ends : (words : List (List ℕ)) (input : Option (List ℕ)) (read_failed : Type 0) (error : ReplayRefused) → IsReplay words → IsReplayRefusal input read_failed error
+    → Ends words input read_failed (status_of error) (status_line (status_of error))
+refusal_ends words input read_failed refused.ReadFault is why = (is, why, refl)
+refusal_ends words input read_failed refused.Limit is why = (is, why, refl)
+refusal_ends words input read_failed refused.Unbuilt is why = (is, why, refl)
+refusal_ends words input read_failed (refused.NoMemory error) is why = (is, refl)
+
+-- a run is cut short where the last write failed
+pub cut_short : (words : List (List ℕ)) (input : Option (List ℕ)) (read_failed : Type 0) (old new : Option (List ℕ)) (write_failed : Type 0) (text : List ℕ) (wanted result : Status)
+    → IsEnd old new write_failed text wanted result → Ends words input read_failed wanted text → result ≡ status.WriteFault → IsCutShort words input read_failed old new
+cut_short words input read_failed old new write_failed text wanted result (inl whole) ends failed =
+    absurd (subst (λ s. Ends words input read_failed s text) (sym whole.0 ∙ failed) ends)
+cut_short words input read_failed old new write_failed text wanted result (inr part) ends failed = (wanted, (text, ends, part.2))

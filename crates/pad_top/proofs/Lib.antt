@@ -1,0 +1,6 @@
+mod Ending
+mod LineLemmas
+mod Once
+mod Receiving
+mod Taking
+mod WordLemmas

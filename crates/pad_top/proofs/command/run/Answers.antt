@@ -1,0 +1,30 @@
+-- A run that a failed write cut short.
+use Rattle.std.proofs.Common.{◌≡◌, true, false, List, ℕ, Option, IfSome, map, string_bytes, refl, sym, ap, subst, ◌∙◌}
+use Rattle.pad_edge.specs.Count.{Rose}
+use Rattle.pad_top.specs.Replay.{IsReplayed}
+use Rattle.pad_top.specs.Run.{Ends}
+use Rattle.pad_top.specs.Status.{status_line}
+use Rattle.pad_top.specs.Words.{IsReplay}
+use Rattle.pad_top.proofs.Ending.{refusal_ends, cut_short}
+use Rattle.pad_top.proofs.command.run.Goals as goal
+
+pub returns-then-not-is_replay-clause-part : goal.returns-then-not-is_replay-clause-part
+returns-then-not-is_replay-clause-part g c =
+    let no_replay : ¬ (IsReplay (map string_bytes c.args.words.now)) = λ is. let both : false ≡ true = c.if-not-is_replay.ensures.1 is in cc in
+    cut_short _ _ _ _ _ _ _ _ _ c.end.ensures (no_replay, c.line.ensures)
+
+pub returns-in-Ok-clause-part : goal.returns-in-Ok-clause-part
+returns-in-Ok-clause-part g c =
+    cut_short _ _ _ _ _ _ _ _ _ c.end-in-Ok.ensures (
+      c.if-not-is_replay.ensures.0 refl,
+      subst (λ text. IfSome (g.I.Source.left c.args.input.now) (λ bytes. IsReplayed bytes text)) (sym c.as_bytes.ensures.value) c.in-Ok.ensures.report,
+    )
+
+pub returns-in-Err-clause-part : goal.returns-in-Err-clause-part
+returns-in-Err-clause-part g c =
+    let words = map string_bytes c.args.words.now in
+    let left = g.I.Source.left c.args.input.now in
+    let failed = Rose (g.I.Source.faults c.args.input.now) (g.I.Source.faults c.replay.new.input) in
+    let ends = refusal_ends words left failed c.in-Err.refused (c.if-not-is_replay.ensures.0 refl) c.in-Err.ensures.refused in
+    let at_status = subst (λ status. Ends words left failed status (status_line status)) (sym c.status-status.ensures) ends in
+    cut_short _ _ _ _ _ _ _ _ _ c.end-in-Err.ensures (subst (Ends words left failed c.status-status.result) (sym c.line-in-Err.ensures) at_status)

@@ -1,0 +1,12 @@
+-- The base inside is the first one.
+use Rattle.std.proofs.Common.{IfOk, string_bytes}
+use Rattle.std.proofs.lemmas.Result.{IfOk-weaker}
+use Rattle.pad_model.specs.Path.{NamesDiffer}
+use Rattle.pad_model.specs.Report.{IsReport}
+use Rattle.pad_top.proofs.Receiving.{report_from_first}
+use Rattle.pad_top.proofs.received.Received.report.Goals as goal
+
+pub returns-clause-report : goal.returns-clause-report
+returns-clause-report c =
+    IfOk-weaker c.report.result _ _
+    (λ text. report_from_first c.self.inside.base c.self.inside.messages c.self.inside.unreadable c.args.self.now (string_bytes text) c.self.invariant.first c.self.view_is) c.report.ensures

@@ -1,0 +1,17 @@
+-- The report of what was received is that of the input.
+use Rattle.std.proofs.Common.{List, ℕ, length, arith, ap, subst, string_bytes}
+use Rattle.pad_top.specs.Line.{lines_of}
+use Rattle.pad_top.specs.Received.{IsReceived}
+use Rattle.pad_top.specs.Replay.{IsReplayed}
+use Rattle.pad_top.proofs.Ending.{told, replayed}
+use Rattle.pad_top.proofs.replay.replay.Goals as goal
+
+pub returns-clause-report : goal.returns-clause-report
+returns-clause-report g c =
+    let bytes = c.in_ok-bytes.bytes.items in
+    let received = c.in_ok-received.received in
+    told (g.I.Source.left c.args.input.now) bytes (λ input. IsReplayed input (string_bytes c.in_ok-text.text)) c.in_ok-bytes.ensures.whole
+    (replayed bytes (string_bytes c.in_ok-text.text) received.messages received.unreadable
+    (omega (arith, c.in_ok-bytes.ensures.within, ap length c.as_slice.ensures.value, c.as_slice.ensures.len))
+    (subst (λ text. IsReceived (lines_of text) received.messages received.unreadable) c.as_slice.ensures.value c.in_ok-received.ensures.received)
+    c.report.ensures.accepted c.in_ok-text.ensures.report)

@@ -1,0 +1,68 @@
+-- How the program that receives lines goes on, line by line.
+use Rattle.std.specs.Prelude.{◌≡◌, ◌≢◌, ⊤, ℕ, ◌+◌, ◌⊎◌, List, [], ◌∷◌, ◌++◌, Bool, Option, None, Some, Contains, MatchBool}
+use Rattle.pad_text.specs.declared.name.Name.{Name}
+use Rattle.pad_message.specs.declared.kind.Kind.{Kind}
+use Rattle.pad_message.specs.declared.kind.Kind.TheVariants as kind
+use Rattle.pad_message.specs.declared.message.Message.{Message}
+use Rattle.pad_message.specs.Message.{name_of}
+use Rattle.pad_model.specs.declared.base.Base.{Base}
+use Rattle.pad_model.specs.Count.{IsNumberOf, IsKnown}
+use Rattle.pad_top.specs.declared.refused.ReplayRefused.{ReplayRefused}
+use Rattle.pad_top.specs.declared.refused.ReplayRefused.TheVariants as refused
+use Rattle.pad_top.specs.Received.{first_base, most_names, LineSpells, ReadsAs, IsAccepted, IsOneTooMany, MeetsCheckpoint, MeetsOneTooMany}
+
+-- what was received so far
+pub record Progress : Type 0 where
+  pub messages : List Message
+  pub unreadable : ℕ
+
+-- the base is the first one, and the messages are accepted
+pub record IsInside (base : Base) (messages : List Message) : Type 0 where
+  pub first : base ≡ first_base
+  pub accepted : IsAccepted messages
+
+-- a message of this name would bring one name too many
+pub record IsFull (base : Base) (messages : List Message) (name : Name) : Type 0 where
+  pub full : IsNumberOf (IsKnown base messages) most_names
+  pub not_base : name ≢ base.name
+  pub new : (known : Message) → Contains messages known → name_of known ≢ name
+
+-- there is room for one more name, or the name is no new one
+pub record HasRoom (base : Base) (messages : List Message) (name : Name) : Type 0 where
+  pub number : ℕ
+  pub known : IsNumberOf (IsKnown base messages) number
+  pub room : (number ≢ most_names) ⊎ ((name ≡ base.name) ⊎ ((known : Message) × Contains messages known × (name_of known ≡ name)))
+
+-- a test whether a message of this name would bring one name too many
+abbrev pub TestsRoom : Base → List Message → Name → Bool → Type 0
+TestsRoom base messages name too_many = MatchBool too_many (IsFull base messages name) (HasRoom base messages name)
+
+-- what was received after one more line, by what that reads as
+abbrev pub progress_after : Option Message → Progress → Progress
+progress_after None before = record { messages = before.messages; unreadable = before.unreadable + 1 }
+progress_after (Some message) before = record { messages = before.messages ++ message ∷ []; unreadable = before.unreadable }
+
+-- one more line was received
+abbrev pub Receives : List ℕ → Progress → Progress → Type 0
+Receives line old new = (outcome : Option Message) × ReadsAs line outcome × (new ≡ progress_after outcome old)
+
+-- why a message was not received
+abbrev pub IsMessageRefusal : Message → List Message → ReplayRefused → Type 0
+IsMessageRefusal message messages refused.ReadFault = ⊥
+IsMessageRefusal message messages refused.Limit = IsAccepted messages × IsOneTooMany messages message
+IsMessageRefusal message messages refused.Unbuilt = IsAccepted messages × (message.kind ≡ kind.Checkpoint)
+IsMessageRefusal message messages (refused.NoMemory error) = ⊤
+
+-- why a line was not received
+abbrev pub IsLineRefusal : List ℕ → List Message → ReplayRefused → Type 0
+IsLineRefusal line messages refused.ReadFault = ⊥
+IsLineRefusal line messages refused.Limit = (message : Message) × LineSpells line message × IsMessageRefusal message messages refused.Limit
+IsLineRefusal line messages refused.Unbuilt = (message : Message) × LineSpells line message × IsMessageRefusal message messages refused.Unbuilt
+IsLineRefusal line messages (refused.NoMemory error) = ⊤
+
+-- why the lines were not received to their end
+abbrev pub IsLinesRefusal : List (List ℕ) → ReplayRefused → Type 0
+IsLinesRefusal lines refused.ReadFault = ⊥
+IsLinesRefusal lines refused.Limit = MeetsOneTooMany lines
+IsLinesRefusal lines refused.Unbuilt = MeetsCheckpoint lines
+IsLinesRefusal lines (refused.NoMemory error) = ⊤

@@ -1,0 +1,75 @@
+-- What is received of the lines of an input.
+use Rattle.std.specs.Prelude.{◌≡◌, ◌≢◌, ⊤, ℕ, ◌+◌, ◌≤◌, ◌^◌, List, [], ◌∷◌, ◌++◌, length, replicate, Option, None, Some, is_none, All, count_by, Contains, ◌↔◌}
+use Rattle.std.specs.Str.{IsUtf8}
+use Rattle.std.specs.List.{AllZip, filter_map}
+use Rattle.pad_text.specs.declared.name.Name.{Name}
+use Rattle.pad_message.specs.declared.kind.Kind.{Kind}
+use Rattle.pad_message.specs.declared.kind.Kind.TheVariants as kind
+use Rattle.pad_message.specs.declared.message.Message.{Message}
+use Rattle.pad_message.specs.Message.{name_of}
+use Rattle.pad_message.specs.Content.{Reads}
+use Rattle.pad_model.specs.declared.base.Base.{Base}
+use Rattle.pad_model.specs.Count.{NoRepeat, IsNumberOf, IsKnown}
+
+-- the base that a replay begins at: its name is sixty-four zeros, and its text is empty
+abbrev pub first_base : Base
+first_base = record { name = record { 0 = replicate 32 0 }; text = [] }
+
+-- the most different names that a replay receives, the base's excepted
+abbrev pub most_names : ℕ
+most_names = 1048576
+
+-- the line spells a message: it is UTF-8, and reads as a content
+abbrev pub LineSpells : List ℕ → Message → Type 0
+LineSpells line message = IsUtf8 line × Reads line message
+
+-- what a line reads as: a message, or none where it spells none
+abbrev pub ReadsAs : List ℕ → Option Message → Type 0
+ReadsAs line None = (message : Message) → ¬ (LineSpells line message)
+ReadsAs line (Some message) = LineSpells line message
+
+-- the lines read as these messages, in order, and so many of them as none
+pub record IsReceived (lines : List (List ℕ)) (messages : List Message) (unreadable : ℕ) : Type 0 where
+  pub outcomes : List (Option Message)
+  pub each : AllZip ReadsAs lines outcomes
+  pub read : messages ≡ filter_map (λ outcome. outcome) outcomes
+  pub others : unreadable ≡ count_by is_none outcomes
+
+-- no more names are known, the base's excepted, than a replay receives: different ones are at most so many
+abbrev pub HasFewNames : List Message → Type 0
+HasFewNames messages = (names : List Name) → NoRepeat names → ((name : Name) → Contains names name → IsKnown first_base messages name) → length names ≤ most_names
+
+-- a replay receives these messages: none of them is a checkpoint, and there are not too many names
+pub record IsAccepted (messages : List Message) : Type 0 where
+  pub patches : All (λ message. message.kind ≡ kind.Patch) messages
+  pub names : HasFewNames messages
+
+-- a replay receives the lines to their end
+pub record IsTaken (lines : List (List ℕ)) (messages : List Message) (unreadable : ℕ) : Type 0 where
+  pub received : IsReceived lines messages unreadable
+  pub accepted : IsAccepted messages
+
+-- the name of the message would be one too many
+pub record IsOneTooMany (messages : List Message) (message : Message) : Type 0 where
+  pub patch : message.kind ≡ kind.Patch
+  pub full : IsNumberOf (IsKnown first_base messages) most_names
+  pub not_base : name_of message ≢ first_base.name
+  pub new : (known : Message) → Contains messages known → name_of known ≢ name_of message
+
+-- after lines that were taken as these messages comes one that reads as this message
+pub record Reaches (lines : List (List ℕ)) (messages : List Message) (message : Message) : Type 0 where
+  pub before : List (List ℕ)
+  pub line : List ℕ
+  pub after : List (List ℕ)
+  pub parts : lines ≡ before ++ line ∷ after
+  pub unreadable : ℕ
+  pub taken : IsTaken before messages unreadable
+  pub spelled : LineSpells line message
+
+-- the first line at which a replay stops reads as a checkpoint
+abbrev pub MeetsCheckpoint : List (List ℕ) → Type 0
+MeetsCheckpoint lines = (messages : List Message) × (message : Message) × Reaches lines messages message × (message.kind ≡ kind.Checkpoint)
+
+-- the first line at which a replay stops brings one name too many
+abbrev pub MeetsOneTooMany : List (List ℕ) → Type 0
+MeetsOneTooMany lines = (messages : List Message) × (message : Message) × Reaches lines messages message × IsOneTooMany messages message

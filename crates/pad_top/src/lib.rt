@@ -1,0 +1,18 @@
+//! The commands of the program, over what comes in and what goes out.
+#![tactic(auto)]
+
+mod command;
+mod input;
+mod laws;
+mod lines;
+mod output;
+mod read_line;
+mod received;
+mod refused;
+mod replay;
+mod status;
+mod words;
+
+pub use command::run;
+pub use laws::{inputs_end_once, lines_are_received_once};
+pub use status::Status;

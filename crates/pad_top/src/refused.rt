@@ -1,0 +1,47 @@
+ghost use Rattle.std.specs.Prelude.{◌≡◌};
+ghost use Rattle.pad_top.specs.declared.refused.ReplayRefused.TheVariants.{NoMemory};
+
+use crate::status::Status;
+use std::alloc::AllocError;
+use thiserror::Error;
+
+/// Why a replay has no report.
+#[derive(Debug, Drop, Error)]
+pub(crate) enum ReplayRefused {
+    /// A read of the input failed.
+    #[error("a read failed")]
+    ReadFault,
+    /// The input has more bytes, or more different names, than a run takes.
+    #[error("the input is past a limit")]
+    Limit,
+    /// A line of the input reads as a checkpoint.
+    #[error("checkpoints are not built")]
+    Unbuilt,
+    /// There was not enough memory.
+    #[error(transparent)]
+    NoMemory(AllocError),
+}
+
+impl From<AllocError> for ReplayRefused {
+    ghost from_gives = { λ refused result. result ≡ NoMemory refused };
+
+    fn from(refused: AllocError) -> ReplayRefused {
+        ReplayRefused::NoMemory(refused)
+    }
+}
+
+impl ReplayRefused {
+    ghost use Rattle.pad_top.specs.Refusal.{status_of};
+
+    /// The status that a run ends with then.
+    pub(crate) fn status(&self) -> Status
+        ensures { result ≡ status_of self.now }
+    {
+        match self {
+            ReplayRefused::ReadFault => Status::ReadFault,
+            ReplayRefused::Limit => Status::Limit,
+            ReplayRefused::Unbuilt => Status::Unbuilt,
+            ReplayRefused::NoMemory(_) => Status::NoMemory,
+        }
+    }
+}

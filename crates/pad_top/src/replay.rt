@@ -1,0 +1,41 @@
+ghost use Rattle.std.specs.Prelude.{IfOk, IfErr, IfSome, OnOk, string_bytes};
+ghost use Rattle.std.specs.Io.KnownBytes.{IsAtEnd};
+ghost use Rattle.pad_edge.specs.Count.{Rose};
+ghost use Rattle.pad_top.specs.Line.{lines_of};
+ghost use Rattle.pad_top.specs.Received.{IsReceived};
+ghost use Rattle.pad_top.specs.Progress.{IsLinesRefusal};
+ghost use Rattle.pad_top.specs.Refusal.{IsReplayRefusal};
+ghost use Rattle.pad_top.specs.Replay.{IsReplayed};
+
+use crate::input::read_all;
+use crate::lines::split_line;
+use crate::received::Received;
+use crate::refused::ReplayRefused;
+use pad_edge::Source;
+use std::alloc::Global;
+
+/// The report of what the lines of the whole input read as.
+pub(crate) fn replay<I: Source>(alloc: Global, input: &mut I) -> Result<String, ReplayRefused>
+    ensures report { IfOk result (λ text. IfSome (I.left input.old) (λ bytes. IsReplayed bytes (string_bytes text))) }
+    ensures ended { OnOk result (IsAtEnd (I.left input.new)) }
+    ensures refused { IfErr result (IsReplayRefusal (I.left input.old) (Rose (I.faults input.old) (I.faults input.new))) }
+{
+    let bytes = read_all(alloc, input)?;
+    let received = receive_lines(alloc, bytes.as_slice())?;
+    let text = received.report(alloc)?;
+    Ok(text)
+}
+
+/// What is received of all lines of a text.
+fn receive_lines(alloc: Global, text: &[u8]) -> Result<Received, ReplayRefused>
+    ensures received { IfOk result (λ received. IsReceived (lines_of text.now) received.messages received.unreadable) }
+    ensures refused { IfErr result (IsLinesRefusal (lines_of text.now)) }
+{
+    let mut received = Received::new(alloc);
+    let mut rest = text;
+    while let Some((line, after)) = split_line(rest) {
+        received = received.with_line(alloc, line)?;
+        rest = after;
+    }
+    Ok(received)
+}

@@ -1,0 +1,51 @@
+ghost use Rattle.std.specs.Prelude.{◌≡◌};
+ghost use Rattle.pad_top.specs.Status.{status_line, status_number};
+
+/// How a run ended.
+#[derive(Clone, Copy, Debug, PartialEq, Eq)]
+pub enum Status {
+    /// The command was done to its end.
+    Ok,
+    /// The words are no command.
+    Usage,
+    /// A read of the input failed.
+    ReadFault,
+    /// A write of the output failed.
+    WriteFault,
+    /// The input has more bytes, or more different messages, than a run takes.
+    Limit,
+    /// There was not enough memory.
+    NoMemory,
+    /// The input asks for what is not built yet.
+    Unbuilt,
+}
+
+impl Status {
+    /// The number that a program ends with.
+    pub fn number(self) -> u8
+        ensures { result ≡ status_number self }
+    {
+        match self {
+            Status::Ok => 0,
+            Status::Usage => 2,
+            Status::ReadFault => 3,
+            Status::WriteFault => 4,
+            Status::Limit => 7,
+            Status::NoMemory => 9,
+            Status::Unbuilt => 12,
+        }
+    }
+
+    /// The line that tells why a run ended early, which is written last. It is empty where nothing is told.
+    pub(crate) fn line(self) -> &'static [u8]
+        ensures { result.now ≡ status_line self }
+    {
+        match self {
+            Status::Ok | Status::WriteFault | Status::NoMemory => b"",
+            Status::Usage => b"usage\n",
+            Status::ReadFault => b"read fault\n",
+            Status::Limit => b"limit\n",
+            Status::Unbuilt => b"not built\n",
+        }
+    }
+}
