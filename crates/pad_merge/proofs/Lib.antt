@@ -1,0 +1,6 @@
+pub mod Sources
+pub mod Reading
+pub mod Both
+pub mod Readback
+pub mod Applied
+pub mod TakenBack

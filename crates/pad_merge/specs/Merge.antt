@@ -1,0 +1,49 @@
+-- One patch that does what one patch and then another one do.
+use Rattle.std.specs.Prelude.{ℕ, suc, ◌+◌, ◌-◌, ◌<◌, ◌⊎◌, ◌==◌, List, [], ◌∷◌, ◌++◌, length, map, if◌then◌else◌}
+use Rattle.pad_text.specs.Text.{CutsPair}
+use Rattle.pad_patch.specs.declared.operation.Operation.{Operation}
+use Rattle.pad_patch.specs.declared.patch.Patch.{Patch}
+use Rattle.pad_patch.specs.Piece.{end_of, length_after}
+use Rattle.pad_patch.specs.Misfit.{IsOperation, Overlaps, EndsAfter}
+use Rattle.pad_merge.specs.declared.source.Source.{Source}
+use Rattle.pad_merge.specs.declared.source.Source.TheVariants.{Kept, New}
+use Rattle.pad_merge.specs.Source.{sources_of, sources_after}
+
+-- the operation that puts new units in place of those from one place to another; none where both are none
+abbrev pub gap : ℕ → ℕ → List ℕ → List Operation
+gap from to [] = if from == to then [] else record { offset = from; remove = to - from; insert = [] } ∷ []
+gap from to (unit ∷ units) = record { offset = from; remove = to - from; insert = unit ∷ units } ∷ []
+
+-- one operation for each gap between kept units that do not continue each other,
+-- where `place` is behind the last kept unit, and so many units were new since
+abbrev pub operations_between : ℕ → List ℕ → ℕ → List Source → List Operation
+operations_between place inserted size [] = gap place size inserted
+operations_between place inserted size (Kept at ∷ sources) = gap place at inserted ++ operations_between (suc at) [] size sources
+operations_between place inserted size (New unit ∷ sources) = operations_between place (inserted ++ unit ∷ []) size sources
+
+-- the merge of two patches, of a text of `size` units
+unfoldable pub merged : Patch → Patch → ℕ → Patch
+merged first second size = record { ops = operations_between 0 [] size (sources_after second (sources_of first size)); before = first.before }
+
+-- a patch is in normal form: no two operations touch, and none is empty
+pub record IsNormal (patch : Patch) : Type 0 where
+  pub untouched : (index : ℕ) (earlier later : Operation) → IsOperation patch index earlier → IsOperation patch (index + 1) later → end_of earlier < later.offset
+  pub needed : (index : ℕ) (operation : Operation) → IsOperation patch index operation → (0 < operation.remove) ⊎ (0 < length operation.insert)
+
+-- a new unit as it is, and a letter for a kept one
+abbrev pub new_or_letter : Source → ℕ
+new_or_letter (Kept place) = 0x61
+new_or_letter (New unit) = unit
+
+-- the place stands between the two units of a pair that the patch inserts, as they stand after it
+abbrev pub CutsInserted : Patch → ℕ → ℕ → Type 0
+CutsInserted patch size place = CutsPair (map new_or_letter (sources_of patch size)) place
+
+-- two patches can be merged: the first one on a text of `size` units, and the second one on the text after it
+pub record CanMerge (first second : Patch) (size : ℕ) : Type 0 where
+  pub first_ordered : (index : ℕ) → ¬ (Overlaps first index)
+  pub first_inside : (index : ℕ) → ¬ (EndsAfter first size index)
+  pub second_ordered : (index : ℕ) → ¬ (Overlaps second index)
+  pub second_inside : (index : ℕ) → ¬ (EndsAfter second (length_after first size) index)
+  pub starts_whole : (index : ℕ) (operation : Operation) → IsOperation second index operation → ¬ (CutsInserted first size operation.offset)
+  pub ends_whole : (index : ℕ) (operation : Operation) → IsOperation second index operation → ¬ (CutsInserted first size (end_of operation))

@@ -1,0 +1,36 @@
+-- Where the units of a copy come from: from a place of the text, or from an insertion.
+use Rattle.std.specs.Prelude.{ℕ, zero, suc, ◌≤◌, List, [], ◌∷◌, length, map, take, drop, slice_index}
+use Rattle.std.specs.List.{flat_map}
+use Rattle.pad_patch.specs.declared.patch.Patch.{Patch}
+use Rattle.pad_merge.specs.declared.source.Source.{Source}
+use Rattle.pad_merge.specs.declared.source.Source.TheVariants.{Kept, New}
+use Rattle.pad_patch.specs.Piece.{Piece, keep, new_units, pieces}
+
+-- so many units of the text, from a place on
+abbrev pub kept_from : ℕ → ℕ → List Source
+kept_from place zero = []
+kept_from place (suc count) = Kept place ∷ kept_from (suc place) count
+
+-- the sources of a piece of the copy of units that have these sources
+abbrev pub sources_of_piece : List Source → Piece → List Source
+sources_of_piece sources (keep from count) = take count (drop from sources)
+sources_of_piece sources (new_units units) = map New units
+
+-- the sources of the units after a patch of units that have these sources
+abbrev pub sources_after : Patch → List Source → List Source
+sources_after patch sources = flat_map (sources_of_piece sources) (pieces patch (length sources))
+
+-- the sources of the units after a patch of a text of `size` units
+abbrev pub sources_of : Patch → ℕ → List Source
+sources_of patch size = sources_after patch (kept_from 0 size)
+
+-- the unit that a source stands for in a text
+abbrev pub unit_of : List ℕ → Source → ℕ
+unit_of text (Kept place) = slice_index text place
+unit_of text (New unit) = unit
+
+-- the places of kept units rise from `low` on, and stay below `high`
+abbrev pub IsAscending : ℕ → ℕ → List Source → Type 0
+IsAscending low high [] = low ≤ high
+IsAscending low high (Kept at ∷ sources) = (low ≤ at) × IsAscending (suc at) high sources
+IsAscending low high (New unit ∷ sources) = IsAscending low high sources
