@@ -42,3 +42,7 @@ length_after patch size = sum_by size_of_piece (pieces patch size)
 -- the text after a patch
 unfoldable pub text_after : Patch → List ℕ → List ℕ
 text_after patch text = flat_map (units_of_piece text) (pieces patch (length text))
+
+-- the insertions of a patch, joined
+abbrev pub inserted : Patch → List ℕ
+inserted patch = flat_map (λ (operation : Operation). operation.insert) patch.ops

@@ -26,6 +26,13 @@ impl Operations {
         Operations { items }
     }
 
+    /// The operations, as the vector that holds them. It only moves the vector.
+    pub fn into_vec(self) -> Vec<Operation>
+        ensures { result.items ≡ self }
+    {
+        self.items
+    }
+
     /// Lends the operations.
     pub fn as_slice(&self) -> &[Operation]
         ensures { result.now ≡ self.now }

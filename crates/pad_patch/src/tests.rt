@@ -142,6 +142,7 @@ fn an_inverse_takes_a_patch_back(rt: HostRuntime) -> Result<(), Fail> {
             assert_eq!(rt; shown(alloc, &inverse)?.as_str(), "[0,1,he][1,0,l]");
             let back = inverse.apply(alloc, &after)?;
             assert_eq!(rt; text_of(alloc, &back)?.as_str(), "hello");
+            assert_eq!(rt; inverse.ops.into_vec().len(), 2);
             return Ok(());
         }
     }

@@ -67,6 +67,14 @@ impl Text {
         self.units.as_slice()
     }
 
+    /// The units, as the vector that holds them. It only moves the vector.
+    pub fn into_units(self) -> Vec<u16>
+        ensures units { result.items ≡ self }
+        ensures text { IsText self }
+    {
+        self.units
+    }
+
     /// The text as a string, in UTF-8.
     pub fn to_string(&self, alloc: Global) -> Result<String, AllocError>
         ensures { IfOk result (λ string. string_bytes string ≡ utf8 self.now) }

@@ -7,13 +7,13 @@ use Rattle.pad_text.specs.Hash.{document_hash}
 use Rattle.pad_patch.specs.declared.operation.Operation.{Operation}
 use Rattle.pad_patch.specs.declared.patch.Patch.{Patch}
 use Rattle.pad_patch.specs.declared.misfit.Misfit.TheVariants.{Order, Range, Pair, TooLong, BeforeHash}
-use Rattle.pad_patch.specs.Piece.{end_of, text_after}
+use Rattle.pad_patch.specs.Piece.{end_of, text_after, inserted}
 use Rattle.pad_patch.specs.Misfit.{CanApply}
 use Rattle.pad_patch.specs.UnitStore.{IsRange}
 use Rattle.pad_patch.proofs.Laid.{IsLaid, laid}
 use Rattle.pad_patch.proofs.Copies.{Whole, InsertsTexts}
 use Rattle.pad_transform.specs.Table.{transformed_all}
-use Rattle.pad_transform.specs.Carried.{BothApply, FitsButLength, inserted, RemovesOnlyKept}
+use Rattle.pad_transform.specs.Carried.{BothApply, FitsButLength, RemovesOnlyKept}
 use Rattle.pad_transform.proofs.Cases.{joined-through, joined}
 use Rattle.pad_transform.proofs.Order.{IsImage, image_of, ordered-through}
 use Rattle.pad_transform.proofs.Ranges.{AreNext-laid, IsRange-through}

@@ -19,10 +19,6 @@ pub record BothApply (patch by : Patch) (text : List ℕ) : Type 0 where
 abbrev pub FitsButLength : Patch → List ℕ → Type 0
 FitsButLength patch text = (misfit : Misfit) → IsMisfit patch text misfit → misfit ≡ TooLong
 
--- the insertions of a patch, joined
-abbrev pub inserted : Patch → List ℕ
-inserted patch = flat_map (λ (operation : Operation). operation.insert) patch.ops
-
 -- an operation of the patch removes the unit at this place
 abbrev pub Removes : Patch → ℕ → Type 0
 Removes patch place = (index : ℕ) × (operation : Operation) × IsOperation patch index operation × (operation.offset ≤ place) × (place < end_of operation)

@@ -4,9 +4,9 @@ use Rattle.std.specs.List.{All}
 use Rattle.pad_patch.specs.declared.operation.Operation.{Operation}
 use Rattle.pad_patch.specs.declared.patch.Patch.{Patch}
 use Rattle.pad_transform.specs.Table.{through, SumsFitThrough}
-use Rattle.pad_patch.specs.Piece.{text_after}
+use Rattle.pad_patch.specs.Piece.{text_after, inserted}
 use Rattle.pad_patch.specs.Misfit.{CanApply}
-use Rattle.pad_transform.specs.Carried.{inserted, old_places}
+use Rattle.pad_transform.specs.Carried.{old_places}
 
 -- each sum fits where there is room behind each operation's start for all that the other patch inserts
 abbrev pub SumsFitWithRoom : Type 0

@@ -2,10 +2,10 @@ ghost use Rattle.std.specs.Prelude.{◌≡◌, ℕ, List, IfOk, IfSome};
 ghost use Rattle.std.specs.List.{All};
 ghost use Rattle.pad_text.specs.Text.{IsText};
 ghost use Rattle.pad_text.specs.Hash.{document_hash};
-ghost use Rattle.pad_patch.specs.Piece.{text_after};
+ghost use Rattle.pad_patch.specs.Piece.{text_after, inserted};
 ghost use Rattle.pad_patch.specs.Misfit.{Overlaps, CanApply};
 ghost use Rattle.pad_transform.specs.Table.{through, transformed_all, SumsFitThrough};
-ghost use Rattle.pad_transform.specs.Carried.{BothApply, FitsButLength, inserted, RemovesOnlyKept};
+ghost use Rattle.pad_transform.specs.Carried.{BothApply, FitsButLength, RemovesOnlyKept};
 
 use crate::table::transform_op;
 use pad_patch::{Operation, Operations, Patch};

@@ -2,7 +2,7 @@
 ghost use Rattle.std.specs.Prelude.{◌≡◌, ◌+◌, ◌≤◌, length, IfSome, IsTrue};
 ghost use Rattle.std.specs.List.{All};
 ghost use Rattle.pad_patch.specs.declared.operation.Operation.{Operation};
-ghost use Rattle.pad_transform.specs.Carried.{inserted};
+ghost use Rattle.pad_patch.specs.Piece.{inserted};
 ghost use Rattle.pad_transform.specs.Table.{SumsFitThrough};
 
 use crate::laws::sums_fit_with_room;
