@@ -1,6 +1,6 @@
 -- Lists that are written over.
 use Rattle.std.proofs.Common.{◌≡◌, ℕ, ◌+◌, ◌≤◌, List, ◌++◌, length, take, sym, ap, ◌∙◌, arith, append_assoc, length-append}
-use Rattle.std.proofs.lemmas.List.{length-take-le, take-take, take_at, take-append-le}
+use Rattle.std.proofs.lemmas.List.{length-take-le, take-take, take_at}
 
 -- what stands in front after a piece was written over a place, where the whole is read back up to a size
 pub take-written : (at count size : ℕ) (old piece after end : List ℕ) → at ≤ length old → length piece ≡ count → at + count ≤ size

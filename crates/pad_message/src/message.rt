@@ -26,7 +26,7 @@ pub struct Message {
 impl Message {
     ghost use Rattle.pad_message.specs.declared.message.Message.{Message};
     ghost use Rattle.pad_message.specs.Content.{Reads};
-    ghost use Rattle.pad_message.specs.Message.{IsMessage, compact, name_of};
+    ghost use Rattle.pad_message.specs.Message.{compact, name_of};
 
     /// The message that a content spells.
     pub fn read(alloc: Global, content: &str) -> Result<Message, ReadRefused>
@@ -49,10 +49,9 @@ impl Message {
     pub fn text(&self, alloc: Global) -> Result<Wire, AllocError>
         requires { length self.now.patch.ops ≤ most_operations }
         ensures compact { IfOk result (λ wire. wire ≡ compact self.now) }
-        ensures reads { IfOk result (λ wire. IsMessage self.now
-            → length wire ≤ longest_content → Reads wire self.now) }
-        ensures marked { IfOk result (λ wire. IsMessage self.now
-            → length (mark ++ wire) ≤ longest_content → Reads (mark ++ wire) self.now) }
+        ensures reads { IfOk result (λ wire. length wire ≤ longest_content → Reads wire self.now) }
+        ensures marked { IfOk result (λ wire. length (mark ++ wire) ≤ longest_content
+            → Reads (mark ++ wire) self.now) }
     {
         let value = message_value(alloc, self)?;
         Ok(Wire::new(value.to_string(alloc)?))

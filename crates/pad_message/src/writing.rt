@@ -1,7 +1,8 @@
 //! The JSON value that spells a message.
-ghost use Rattle.std.specs.Prelude.{◌≡◌, IfOk};
+ghost use Rattle.std.specs.Prelude.{◌≡◌, map, All, IfOk, OnOk};
 ghost use Rattle.serde_json.specs.View.{view};
 ghost use Rattle.pad_message.specs.Data.{message_data, operation_data, patch_data};
+ghost use Rattle.pad_message.specs.Message.{IsMessage, IsOperation, IsPatch};
 
 use crate::message::Message;
 use pad_patch::{Operation, Patch};
@@ -10,7 +11,8 @@ use std::alloc::{AllocError, Global};
 
 /// `[kind, patch, parent]`.
 pub(crate) fn message_value(alloc: Global, message: &Message) -> Result<Value, AllocError>
-    ensures { IfOk result (λ value. view value ≡ message_data message.now) }
+    ensures value { IfOk result (λ value. view value ≡ message_data message.now) }
+    ensures typed { OnOk result (IsMessage message.now) }
 {
     let patch = patch_value(alloc, &message.patch)?;
     let parent = message.parent.hex(alloc)?;
@@ -19,19 +21,30 @@ pub(crate) fn message_value(alloc: Global, message: &Message) -> Result<Value, A
 
 /// The operations, and then the hash of the text before.
 fn patch_value(alloc: Global, patch: &Patch) -> Result<Value, AllocError>
-    ensures { IfOk result (λ value. view value ≡ patch_data patch.now) }
+    ensures value { IfOk result (λ value. view value ≡ patch_data patch.now) }
+    ensures typed { OnOk result (IsPatch patch.now) }
 {
-    let mut items = Vec::new(alloc);
-    for operation in patch.ops.as_slice() {
-        items.push(operation_value(alloc, operation)?)?;
-    }
+    let mut items = operation_values(alloc, patch.ops.as_slice())?;
     items.push(Value::String(patch.before.hex(alloc)?))?;
     Ok(Value::Array(items))
 }
 
+/// The values of operations.
+fn operation_values(alloc: Global, operations: &[Operation]) -> Result<Vec<Value>, AllocError>
+    ensures values { IfOk result (λ values. map view values.items ≡ map operation_data operations.now) }
+    ensures typed { OnOk result (All IsOperation operations.now) }
+{
+    let mut values = Vec::new(alloc);
+    for operation in operations {
+        values.push(operation_value(alloc, operation)?)?;
+    }
+    Ok(values)
+}
+
 /// `[offset, remove, insert]`.
 fn operation_value(alloc: Global, operation: &Operation) -> Result<Value, AllocError>
-    ensures { IfOk result (λ value. view value ≡ operation_data operation.now) }
+    ensures value { IfOk result (λ value. view value ≡ operation_data operation.now) }
+    ensures typed { OnOk result (IsOperation operation.now) }
 {
     let insert = operation.insert.to_string(alloc)?;
     json!(in alloc; [operation.offset, operation.remove, insert])

@@ -84,6 +84,6 @@ pub(crate) fn best_chain(
     Ok(Best {
         name: base.name,
         height: 0,
-        text: base.text.slice(alloc, 0, base.text.len())?,
+        text: base.text.copy(alloc)?,
     })
 }

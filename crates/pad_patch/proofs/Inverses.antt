@@ -2,7 +2,7 @@
 use Rattle.std.proofs.Common.{◌≡◌, ℕ, zero, suc, ◌+◌, ◌-◌, ◌<◌, ◌≤◌, List, [], ◌∷◌, ◌++◌, length, take, drop, refl, sym, ◌∙◌, ap, subst, arith, append_assoc, add-one, drop-cons, slice_index_or, inl, inr}
 use Rattle.std.specs.Prelude.{Some, All, slice_get}
 use Rattle.std.proofs.lemmas.List.{take_at, drop_at, take_all, append-nil, length-append, length-take-le, length-drop}
-use Rattle.std.proofs.lemmas.Option.{slice_get_within, get_or_from_slice_get}
+use Rattle.std.proofs.lemmas.Option.{get_or_from_slice_get}
 use Rattle.std.proofs.lemmas.Bool.{cases_lt}
 use Rattle.pad_text.specs.Text.{IsText, CutsPair}
 use Rattle.pad_text.specs.declared.name.Name.{Name}
@@ -12,9 +12,9 @@ use Rattle.pad_patch.specs.declared.patch.Patch.{Patch}
 use Rattle.pad_patch.specs.Piece.{end_of, text_after}
 use Rattle.pad_patch.specs.UnitStore.{between}
 use Rattle.pad_patch.specs.Inverse.{inverse, inverse_operation, inverse_operations}
-use Rattle.pad_patch.specs.Misfit.{Overlaps, EndsAfter, CutsPairAt, CanApply}
-use Rattle.pad_patch.proofs.Laid.{IsLaid, laid, inside_of}
-use Rattle.pad_patch.proofs.Copies.{copy_from, copy_from-zero, between-drop, Whole, InsertsTexts, InsertsTexts-all, IsText-copy_from, CanApply-laid, IsNext}
+use Rattle.pad_patch.specs.Misfit.{Overlaps, EndsAfter, CanApply}
+use Rattle.pad_patch.proofs.Laid.{IsLaid, laid}
+use Rattle.pad_patch.proofs.Copies.{copy_from, between-drop, Whole, InsertsTexts, InsertsTexts-all, IsText-copy_from, CanApply-laid}
 
 -- where a place of the text stands in the copy
 abbrev pub moved : ℕ → ℕ → ℕ → ℕ

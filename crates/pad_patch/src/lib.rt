@@ -13,7 +13,7 @@ pub use misfit::Misfit;
 pub use operation::Operation;
 pub use operations::Operations;
 pub use patch::Patch;
-pub use unit_store::UnitStore;
+pub use unit_store::{UnitStore, cuts_pair};
 pub use vec_units::VecUnits;
 
 #[cfg(test)]

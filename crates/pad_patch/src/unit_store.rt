@@ -1,10 +1,9 @@
 ghost use Rattle.std.specs.Prelude.{◌≡◌, ℕ, ◌<◌, ◌↔◌, List, length, IfOk, IsTrue, OnOk, OnErr, slice_index};
-ghost use Rattle.std.specs.Char.Utf16.{is_high_surrogate, is_low_surrogate};
 ghost use Rattle.pad_text.specs.Text.{IsText, CutsPair};
 ghost use Rattle.pad_text.specs.Hash.{document_hash};
 ghost use Rattle.pad_patch.specs.UnitStore.{IsRange, between, replaced};
 
-use pad_text::{Name, Text};
+use pad_text::{Name, Text, is_first_of_pair, is_second_of_pair};
 use std::alloc::{AllocError, Global};
 
 /// A store of the units of one text. Contracts see the list of its UTF-16 units, however they are kept.
@@ -54,26 +53,12 @@ pub trait UnitStore: Sized + Drop {
     ghost is_text: { (store : Self) → IsText (units store) };
 }
 
-/// Whether a place stands between the two units of a pair.
-pub(crate) fn cuts_pair<S: UnitStore>(text: &S, at: usize) -> bool
+/// Whether a place of a store's text stands between the two units of a pair.
+pub fn cuts_pair<S: UnitStore>(text: &S, at: usize) -> bool
     ensures { IsTrue result ↔ CutsPair (S.units text.now) at }
 {
     0 < at
         && at < text.length()
         && is_first_of_pair(text.unit(at - 1))
         && is_second_of_pair(text.unit(at))
-}
-
-/// Whether a unit is the first of a pair.
-fn is_first_of_pair(unit: u16) -> bool
-    ensures { result ≡ is_high_surrogate unit }
-{
-    (0xD800..0xDC00).contains(&unit)
-}
-
-/// Whether a unit is the second of a pair.
-fn is_second_of_pair(unit: u16) -> bool
-    ensures { result ≡ is_low_surrogate unit }
-{
-    (0xDC00..0xE000).contains(&unit)
 }

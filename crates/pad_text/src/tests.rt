@@ -55,6 +55,7 @@ fn a_scalar_above_the_first_plane_is_a_pair(rt: HostRuntime) -> Result<(), Fail>
     let scalar = text.slice(alloc, 1, 3)?;
     assert_eq!(rt; scalar.to_string(alloc)?.as_str(), "\u{1f600}");
     assert_eq!(rt; scalar.len(), 2);
+    assert_eq!(rt; scalar.copy(alloc)?.as_units(), scalar.as_units());
     assert_eq!(rt; scalar.unit(0), 0xD83D);
     assert_eq!(rt; scalar.into_units().as_slice(), [0xD83D, 0xDE00].as_slice());
     Ok(())

@@ -1,25 +1,11 @@
 ghost use Rattle.std.specs.Prelude.{◌≡◌, ℕ, ◌-◌, ◌<◌, ◌≤◌, ◌↔◌, List, length, take, drop, IfOk, IsTrue, slice_index, string_bytes};
-ghost use Rattle.std.specs.Char.Utf16.{is_high_surrogate, is_low_surrogate};
 ghost use Rattle.pad_text.specs.Text.{IsText, CutsPair, units_of, utf8};
 ghost use Rattle.pad_text.specs.Hash.{document_hash};
 
 use crate::name::Name;
+use crate::pair::{is_first_of_pair, is_second_of_pair};
 use std::alloc::{AllocError, Global};
 use std::marker::Model;
-
-/// Whether a unit is the first one of a pair.
-fn is_high(unit: u16) -> bool
-    ensures { result ≡ is_high_surrogate unit }
-{
-    matches!(unit, 0xD800..=0xDBFF)
-}
-
-/// Whether a unit is the second one of a pair.
-fn is_low(unit: u16) -> bool
-    ensures { result ≡ is_low_surrogate unit }
-{
-    matches!(unit, 0xDC00..=0xDFFF)
-}
 
 /// A text. Contracts see the list of its UTF-16 units.
 #[derive(Debug, Drop)]
@@ -77,12 +63,10 @@ impl Text {
 
     /// The text as a string, in UTF-8.
     pub fn to_string(&self, alloc: Global) -> Result<String, AllocError>
-        ensures { IfOk result (λ string. string_bytes string ≡ utf8 self.now) }
+        ensures string { IfOk result (λ string. string_bytes string ≡ utf8 self.now) }
+        ensures text { IsText self.now }
     {
-        match String::from_utf16(alloc, self.units.as_slice())? {
-            Ok(string) => Ok(string),
-            Err(_) => Err(AllocError),
-        }
+        String::from_utf16_lossy(alloc, self.units.as_slice())
     }
 
     /// The length in units.
@@ -104,7 +88,10 @@ impl Text {
     pub fn cuts_pair(&self, at: usize) -> bool
         ensures { IsTrue result ↔ CutsPair self.now at }
     {
-        0 < at && at < self.units.len() && is_high(self.units[at - 1]) && is_low(self.units[at])
+        0 < at
+            && at < self.units.len()
+            && is_first_of_pair(self.units[at - 1])
+            && is_second_of_pair(self.units[at])
     }
 
     /// The text of the units from one place up to another, neither of which cuts a pair.
@@ -116,6 +103,14 @@ impl Text {
         ensures { IfOk result (λ text. text ≡ take (to - from) (drop from self.now)) }
     {
         let units = self.units[from..to].to_vec(alloc)?;
+        Ok(Text { units })
+    }
+
+    /// Another text of the same units.
+    pub fn copy(&self, alloc: Global) -> Result<Text, AllocError>
+        ensures { IfOk result (λ copy. copy ≡ self.now) }
+    {
+        let units = self.units.as_slice().to_vec(alloc)?;
         Ok(Text { units })
     }
 

@@ -54,7 +54,7 @@ fn copy_of(alloc: Global, op: &Operation) -> Result<Operation, AllocError>
     Ok(Operation {
         offset: op.offset,
         remove: op.remove,
-        insert: op.insert.slice(alloc, 0, op.insert.len())?,
+        insert: op.insert.copy(alloc)?,
     })
 }
 

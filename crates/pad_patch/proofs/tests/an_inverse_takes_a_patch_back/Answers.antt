@@ -1,4 +1,4 @@
-use Rattle.std.proofs.Common.{◌≡◌, Bool, true}
+use Rattle.std.proofs.Common.{◌≡◌, true}
 use Rattle.std.specs.Prelude.{Result, Ok, Err, OnOk, is_ok}
 use Rattle.pad_patch.specs.declared.misfit.Misfit.{Misfit}
 use Rattle.pad_patch.specs.Misfit.{CanApply}

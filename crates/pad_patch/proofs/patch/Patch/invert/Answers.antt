@@ -1,18 +1,13 @@
-use Rattle.std.proofs.Common.{◌≡◌, ℕ, ◌<◌, ◌+◌, ◌-◌, ◌∷◌, ◌++◌, [], List, length, drop, refl, sym, ◌∙◌, ap, subst, arith, slice_index_or}
+use Rattle.std.proofs.Common.{◌≡◌, ◌+◌, ◌-◌, ◌++◌, [], length, drop, refl, sym, ◌∙◌, ap, subst, arith, slice_index_or}
 use Rattle.std.proofs.lemmas.List.{drop_all, append-nil}
 use Rattle.std.proofs.lemmas.Option.{slice_get_within, slice_get_read}
 use Rattle.std.specs.Prelude.{slice_get}
-use Rattle.pad_text.specs.Text.{IsText}
 use Rattle.pad_text.specs.Hash.{document_hash}
-use Rattle.pad_patch.specs.declared.operation.Operation.{Operation}
-use Rattle.pad_patch.specs.declared.patch.Patch.{Patch}
 use Rattle.pad_patch.specs.Piece.{text_after, end_of}
-use Rattle.pad_patch.specs.UnitStore.{IsRange, between}
-use Rattle.pad_patch.specs.Misfit.{CanApply}
+use Rattle.pad_patch.specs.UnitStore.{between}
 use Rattle.pad_patch.specs.Inverse.{inverse, inverse_operation, inverse_operations}
-use Rattle.pad_patch.proofs.Elements.{same_element}
 use Rattle.pad_patch.proofs.Copies.{IsRange-operation, InsertsTexts}
-use Rattle.pad_patch.proofs.Inverses.{IsInverting, inverting_first, inverting_next, inverting_bounds, operation_of, patch_of, same_operation, same_patch, drop-operation, built_next, texts_next, text_after-inverse, CanApply-inverse}
+use Rattle.pad_patch.proofs.Inverses.{IsInverting, inverting_first, inverting_next, operation_of, patch_of, same_operation, same_patch, drop-operation, built_next, texts_next, text_after-inverse, CanApply-inverse}
 use Rattle.pad_patch.proofs.patch.Patch.invert.Goals as goal
 
 pub loop-op-init : goal.loop-op-init
