@@ -1,0 +1,5 @@
+pub mod Word
+pub mod Who
+pub mod Request
+pub mod Reply
+pub mod Ask
