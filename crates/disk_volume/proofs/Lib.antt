@@ -1,0 +1,4 @@
+pub mod FolderLemmas
+pub mod PickLemmas
+pub mod RecordLemmas
+pub mod WriteLemmas

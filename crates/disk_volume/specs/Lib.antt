@@ -1,0 +1,17 @@
+pub mod Calls
+pub mod Change
+pub mod Clock
+pub mod Disk
+pub mod Folder
+pub mod Images
+pub mod Memory
+pub mod Moments
+pub mod Names
+pub mod Pending
+pub mod Pick
+pub mod Replay
+pub mod Since
+pub mod Sound
+pub mod Step
+pub mod Stop
+pub mod Torn

@@ -1,0 +1,92 @@
+ghost use Rattle.std.specs.Prelude.{◌≡◌, ℕ, ◌≤◌, List, length, take, drop, IfOk};
+ghost use Rattle.pad_edge.specs.Count.{HasCause};
+ghost use Rattle.disk_volume.specs.Calls.{Writes, Cuts, Syncs};
+ghost use Rattle.disk_volume.specs.Clock.{Ticked};
+ghost use Rattle.disk_volume.specs.Disk.{Disk, did, wrote, cut as cut_act, file_at, reads, IsImage};
+ghost use Rattle.disk_volume.specs.Images.{image_after_write, image_after_cut};
+ghost use Rattle.disk_volume.specs.Moments.{moment, LeftSince, Grew};
+ghost use Rattle.disk_volume.specs.Since.{since_now, now_alone, elsewhere};
+
+use pad_edge::Failed;
+
+/// Files by name in one folder.
+pub trait Volume {
+    /// Whether it tells what stands in its files. One that does not, tells its counts alone.
+    ghost tells: { Type 0 };
+
+    /// What was done to its files so far.
+    ghost disk: { Self → Disk };
+
+    /// A count of its calls.
+    ghost clock: { Self → ℕ };
+
+    /// A count of its failures.
+    ghost faults: { Self → ℕ };
+
+    /// Chooses the folder in which the files stand, and makes it where it is missing. The files stay as they are.
+    fn root(&mut self, folder: &str) -> Result<(), Failed>
+        ensures disk { tells → disk self.new ≡ disk self.old }
+        ensures clock { Ticked (clock self.old) (clock self.new) }
+        ensures cause { HasCause (faults self.old) (faults self.new) result };
+
+    /// The length of a file in bytes, 0 where it is missing.
+    fn length(&mut self, file: &str) -> Result<u64, Failed>
+        ensures length { tells → IfOk result (λ size. size ≡ length (reads (disk self.old) file.now)) }
+        ensures disk { tells → disk self.new ≡ disk self.old }
+        ensures clock { Ticked (clock self.old) (clock self.new) }
+        ensures cause { HasCause (faults self.old) (faults self.new) result };
+
+    /// Reads from a place on, as many bytes as the file has there and the buffer holds, and answers how many.
+    fn read_at(&mut self, file: &str, at: u64, buf: &mut [u8]) -> Result<usize, Failed>
+        ensures within { IfOk result (λ count. count ≤ length buf.new) }
+        ensures bytes { tells → IfOk result (λ count.
+            take count buf.new ≡ take (length buf.old) (drop at (reads (disk self.old) file.now))) }
+        ensures disk { tells → disk self.new ≡ disk self.old }
+        ensures clock { Ticked (clock self.old) (clock self.new) }
+        ensures cause { HasCause (faults self.old) (faults self.new) result };
+
+    /// Writes over what stands from a place on, and past the end. It makes a missing file. Where it failed, any part
+    /// may be done.
+    fn write_at(&mut self, file: &str, at: u64, piece: &[u8]) -> Result<(), Failed>
+        requires { tells → at ≤ length (reads (disk self.old) file.now) }
+        ensures disk { tells → Writes result file.now at piece.now (disk self.old) (disk self.new) }
+        ensures clock { Ticked (clock self.old) (clock self.new) }
+        ensures cause { HasCause (faults self.old) (faults self.new) result };
+
+    /// Cuts a file to a length. Where it failed, any part may be done.
+    fn cut(&mut self, file: &str, to: u64) -> Result<(), Failed>
+        requires { tells → to ≤ length (reads (disk self.old) file.now) }
+        ensures disk { tells → Cuts result file.now to (disk self.old) (disk self.new) }
+        ensures clock { Ticked (clock self.old) (clock self.new) }
+        ensures cause { HasCause (faults self.old) (faults self.new) result };
+
+    /// Puts all that was done to a file on the disk. After it a crash leaves of this file what a read gives.
+    fn sync(&mut self, file: &str) -> Result<(), Failed>
+        ensures disk { tells → Syncs result file.now (disk self.old) (disk self.new) }
+        ensures clock { Ticked (clock self.old) (clock self.new) }
+        ensures cause { HasCause (faults self.old) (faults self.new) result };
+
+    /// A disk as it reads is one of its images.
+    ghost as_it_reads: { (v : Self) → tells → IsImage (disk v) (reads (disk v)) };
+
+    /// An image now is one since each moment.
+    ghost now_is_since: { (v : Self) (time : ℕ) (image : List ℕ → List ℕ) →
+        IsImage (disk v) image → LeftSince time (disk v) image } = { λ v time image. since_now time (disk v) image };
+
+    /// Since this moment there is no other.
+    ghost since_is_now: { (v : Self) (image : List ℕ → List ℕ) →
+        LeftSince (moment (disk v)) (disk v) image → IsImage (disk v) image } = { λ v image. now_alone (disk v) image };
+
+    /// A write takes no image away.
+    ghost writes_add: { (v : Self) (file : List ℕ) (at size : ℕ) (now : List ℕ) (image : List ℕ → List ℕ) →
+        IsImage (disk v) image → IsImage (did (wrote at size now) file (disk v)) image } = { λ v. image_after_write (disk v) };
+
+    /// A cut takes none away.
+    ghost cuts_add: { (v : Self) (file : List ℕ) (to : ℕ) (now : List ℕ) (image : List ℕ → List ℕ) →
+        IsImage (disk v) image → IsImage (did (cut_act to now) file (disk v)) image } = { λ v. image_after_cut (disk v) };
+
+    /// Calls on one file leave every other file as it was, and so what a crash may leave of it.
+    ghost others_stay: { (before now : Self) (file other : List ℕ) →
+        Grew (λ name. name ≡ file) (disk before) (disk now) → (other ≡ file → ⊥) →
+        file_at (disk now) other ≡ file_at (disk before) other } = { λ before now file other. elsewhere (disk now) other };
+}
