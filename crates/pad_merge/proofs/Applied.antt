@@ -8,9 +8,7 @@ use Rattle.pad_patch.specs.declared.patch.Patch.{Patch}
 use Rattle.pad_patch.specs.Piece.{end_of, text_after}
 use Rattle.pad_patch.specs.Misfit.{EndsAfter, CanApply}
 use Rattle.pad_patch.proofs.Copies.{length-text_after}
-use Rattle.pad_merge.specs.declared.source.Source.{Source}
-use Rattle.pad_merge.specs.declared.source.Source.TheVariants.{Kept, New}
-use Rattle.pad_merge.specs.Source.{kept_from, sources_of, unit_of}
+use Rattle.pad_merge.specs.Source.{Source, kept_at, new_unit, kept_from, sources_of, unit_of}
 use Rattle.pad_merge.specs.Merge.{new_or_letter, CutsInserted, CanMerge}
 use Rattle.pad_merge.proofs.Sources.{map-sources_after, map-kept_all}
 
@@ -18,10 +16,10 @@ use Rattle.pad_merge.proofs.Sources.{map-sources_after, map-kept_all}
 same_unit : (test : ℕ → Bool) (text : List ℕ) (sources : List Source) (index : ℕ) → test 0x61 ≡ false → test (slice_index (map new_or_letter sources) index) ≡ true
     → slice_index (map (unit_of text) sources) index ≡ slice_index (map new_or_letter sources) index
 same_unit test text [] index never is = refl
-same_unit test text (Kept at ∷ sources) zero never is = cc
-same_unit test text (New unit ∷ sources) zero never is = refl
-same_unit test text (Kept at ∷ sources) (suc index) never is = same_unit test text sources index never is
-same_unit test text (New unit ∷ sources) (suc index) never is = same_unit test text sources index never is
+same_unit test text (kept_at at ∷ sources) zero never is = cc
+same_unit test text (new_unit unit ∷ sources) zero never is = refl
+same_unit test text (kept_at at ∷ sources) (suc index) never is = same_unit test text sources index never is
+same_unit test text (new_unit unit ∷ sources) (suc index) never is = same_unit test text sources index never is
 
 -- a pair of new units is a pair of the text
 cut_of_inserted : (text : List ℕ) (sources : List Source) (place : ℕ) → CutsPair (map new_or_letter sources) place → CutsPair (map (unit_of text) sources) place

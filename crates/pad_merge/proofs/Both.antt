@@ -3,18 +3,19 @@ use Rattle.std.proofs.Common.{◌≡◌, ℕ, zero, suc, ◌+◌, ◌-◌, ◌<�
 use Rattle.std.specs.Prelude.{All, slice_index}
 use Rattle.std.specs.Char.Utf16.{utf16_chars, is_high_surrogate}
 use Rattle.std.proofs.lemmas.List.{length-map}
+use Rattle.pad_text.specs.declared.name.Name.{Name}
 use Rattle.pad_text.specs.Text.{IsText, CutsPair}
 use Rattle.pad_text.proofs.Texts.{IsText-nil, IsText-append}
 use Rattle.pad_patch.specs.declared.operation.Operation.{Operation}
 use Rattle.pad_patch.specs.declared.patch.Patch.{Patch}
 use Rattle.pad_patch.specs.Piece.{end_of, length_after, text_after}
 use Rattle.pad_patch.specs.Misfit.{EndsAfter}
-use Rattle.pad_patch.proofs.Laid.{IsLaid, laid}
+use Rattle.pad_patch.proofs.Laid.{IsLaid, laid, inside_laid}
 use Rattle.pad_patch.proofs.Copies.{copy_from, length-text_after, IsText-text_after}
-use Rattle.pad_merge.specs.Source.{kept_from, sources_after, sources_of, unit_of, IsAscending}
+use Rattle.pad_merge.specs.Source.{Source, kept_from, sources_after, sources_of, unit_of, IsAscending}
 use Rattle.pad_merge.specs.Merge.{merged, operations_between, new_or_letter, CanMerge, IsNormal}
 use Rattle.pad_merge.proofs.Sources.{map-sources_after, length-kept_from, map-kept_all, ascending_kept, ascending_after}
-use Rattle.pad_merge.proofs.Reading.{copy_between, spaced_between, normal_spaced}
+use Rattle.pad_merge.proofs.Reading.{copy_between, laid_between, spaced_between, normal_spaced}
 
 -- kept units are read as as many letters
 length-letters : (size : ℕ) → length (map new_or_letter (kept_from 0 size)) ≡ size
@@ -60,6 +61,10 @@ both_units : (first second : Patch) (size : ℕ) (text : List ℕ) → length te
 both_units first second size text is =
     map-sources_after (unit_of text) second (sources_of first size) (λ unit. refl)
     ∙ ap (text_after second) (map-sources_after (unit_of text) first (kept_from 0 size) (λ unit. refl) ∙ ap (text_after first) (map-kept_all text size is))
+
+-- the patch that makes units of these sources
+abbrev pub patch_from : ℕ → List Source → Name → Patch
+patch_from size sources before = record { ops = operations_between 0 [] size sources; before = before }
 
 -- applying the merge once is applying both in turn
 pub text_after-merged : (first second : Patch) (size : ℕ) (text : List ℕ) → CanMerge first second size → length text ≡ size
@@ -119,3 +124,12 @@ pub IsNormal-merged : (first second : Patch) (size : ℕ) → CanMerge first sec
 unfolding merged
 IsNormal-merged first second size can =
     normal_spaced (merged first second size) (spaced_between 0 size [] (sources_after second (sources_of first size)) (rising_both first second size can))
+
+-- the operations of the merge stand in order within the text
+pub laid-merged : (first second : Patch) (size : ℕ) → CanMerge first second size → IsLaid 0 size (merged first second size).ops
+unfolding merged
+laid-merged first second size can =
+    laid_between 0 size [] (sources_after second (sources_of first size)) (rising_both first second size can)
+
+pub inside-merged : (first second : Patch) (size : ℕ) → CanMerge first second size → (index : ℕ) → ¬ (EndsAfter (merged first second size) size index)
+inside-merged first second size can = inside_laid (merged first second size) size (laid-merged first second size can)

@@ -10,9 +10,7 @@ use Rattle.pad_patch.specs.Piece.{end_of, pieces_from}
 use Rattle.pad_patch.specs.Misfit.{EndsAfter}
 use Rattle.pad_patch.proofs.Laid.{Inside, StartsFrom, inside_of}
 use Rattle.pad_patch.proofs.Inverses.{same_operation}
-use Rattle.pad_merge.specs.declared.source.Source.{Source}
-use Rattle.pad_merge.specs.declared.source.Source.TheVariants.{Kept, New}
-use Rattle.pad_merge.specs.Source.{kept_from, sources_of_piece, sources_of, sources_after}
+use Rattle.pad_merge.specs.Source.{Source, kept_at, new_unit, kept_from, sources_of_piece, sources_of, sources_after}
 use Rattle.pad_merge.specs.Merge.{gap, operations_between, merged, IsNormal}
 use Rattle.pad_merge.proofs.Sources.{length-kept_from}
 use Rattle.pad_merge.proofs.Reading.{IsSpaced, none, one, gap_cases, replacing}
@@ -37,7 +35,7 @@ read_row place size from (suc count) inserted rest =
 
 -- new units in a row are inserted together
 read_units : (place size : ℕ) (inserted units : List ℕ) (rest : List Source)
-    → operations_between place inserted size (map New units ++ rest) ≡ operations_between place (inserted ++ units) size rest
+    → operations_between place inserted size (map new_unit units ++ rest) ≡ operations_between place (inserted ++ units) size rest
 read_units place size inserted [] rest = ap (λ us. operations_between place us size rest) (sym (append-nil inserted))
 read_units place size inserted (unit ∷ units) rest =
     read_units place size (inserted ++ unit ∷ []) units rest
@@ -47,7 +45,7 @@ read_units place size inserted (unit ∷ units) rest =
 take_kept : (place count size : ℕ) → count ≤ size → take count (kept_from place size) ≡ kept_from place count
 take_kept place zero size within = refl
 take_kept place (suc count) zero within = absurd (omega arith)
-take_kept place (suc count) (suc size) within = ap (λ xs. Kept place ∷ xs) (take_kept (suc place) count size (omega arith))
+take_kept place (suc count) (suc size) within = ap (λ xs. kept_at place ∷ xs) (take_kept (suc place) count size (omega arith))
 
 drop_kept : (place from size : ℕ) → from ≤ size → drop from (kept_from place size) ≡ kept_from (place + from) (size - from)
 drop_kept place zero size within =
@@ -112,7 +110,7 @@ read_back size place from inserted (operation ∷ operations) within (starts, ne
     let count = start - from - 1 in
     let some : start - from ≡ suc count = omega arith in
     let there : from + suc count ≡ start = omega arith in
-    let later = map New operation.insert ++ copy_of size end operations in
+    let later = map new_unit operation.insert ++ copy_of size end operations in
     let range : take (start - from) (drop from (kept_from 0 size)) ≡ kept_from from (suc count) =
     range_kept from (start - from) size (omega arith) ∙ ap (kept_from from) some in
     ap (λ xs. operations_between place inserted size (xs ++ later)) range
@@ -134,7 +132,7 @@ read_all size (operation ∷ operations) (starts, needed, rest) inside = elim (c
       let last : end ≤ size = inside 0 operation refl in
       let here : 0 ≡ operation.offset = omega arith in
       let none_before : operation.offset - 0 ≡ 0 = omega arith in
-      ap (λ n. operations_between 0 [] size (take n (kept_from 0 size) ++ (map New operation.insert ++ copy_of size end operations))) none_before
+      ap (λ n. operations_between 0 [] size (take n (kept_from 0 size) ++ (map new_unit operation.insert ++ copy_of size end operations))) none_before
       ∙ read_units 0 size [] operation.insert (copy_of size end operations)
       ∙ read_back size 0 end operation.insert operations last rest (λ index later_one is. inside (suc index) later_one is)
       ∙ ap (λ n. gap n end operation.insert ++ operations) here

@@ -13,9 +13,7 @@ use Rattle.pad_patch.specs.Piece.{end_of}
 use Rattle.pad_patch.specs.UnitStore.{between}
 use Rattle.pad_patch.proofs.Laid.{IsLaid, IsLaid-before}
 use Rattle.pad_patch.proofs.Copies.{copy_from, copy_from-split}
-use Rattle.pad_merge.specs.declared.source.Source.{Source}
-use Rattle.pad_merge.specs.declared.source.Source.TheVariants.{Kept, New}
-use Rattle.pad_merge.specs.Source.{unit_of, IsAscending}
+use Rattle.pad_merge.specs.Source.{Source, kept_at, new_unit, unit_of, IsAscending}
 use Rattle.pad_merge.specs.Merge.{gap, operations_between, new_or_letter, IsNormal}
 use Rattle.pad_merge.proofs.Sources.{ascending_bounds}
 
@@ -74,12 +72,12 @@ pub laid_between : (place size : ℕ) (inserted : List ℕ) (sources : List Sour
 laid_between place size inserted [] rises =
     subst (IsLaid place size) (append-nil (gap place size inserted))
     (laid_gap place size size inserted [] (gap place size inserted) (gap_cases place size inserted) rises (omega arith))
-laid_between place size inserted (Kept at ∷ sources) rises =
+laid_between place size inserted (kept_at at ∷ sources) rises =
     let later = operations_between (suc at) [] size sources in
     let above = ascending_bounds (suc at) size sources rises.1 in
     let rest = laid_between (suc at) size [] sources rises.1 in
     laid_gap place at size inserted later (gap place at inserted) (gap_cases place at inserted) rises.0 (laid_before at size later rest)
-laid_between place size inserted (New unit ∷ sources) rises = laid_between place size (inserted ++ unit ∷ []) sources rises
+laid_between place size inserted (new_unit unit ∷ sources) rises = laid_between place size (inserted ++ unit ∷ []) sources rises
 
 -- their copy is what the sources stand for
 pub copy_between : (text : List ℕ) (place : ℕ) (inserted : List ℕ) (sources : List Source) → IsAscending place (length text) sources
@@ -90,7 +88,7 @@ copy_between text place inserted [] rises =
     ap (copy_from text place) (sym (append-nil found))
     ∙ copy_gap text place (length text) inserted [] found (gap_cases place (length text) inserted) rises
     ∙ ap (λ n. inserted ++ (take n (drop (length text) text) ++ [])) nothing_left
-copy_between text place inserted (Kept at ∷ sources) rises =
+copy_between text place inserted (kept_at at ∷ sources) rises =
     let later = operations_between (suc at) [] (length text) sources in
     let within : at < length text = ascending_bounds (suc at) (length text) sources rises.1 in
     let unit : between at (suc at) text ≡ slice_index text at ∷ [] =
@@ -99,7 +97,7 @@ copy_between text place inserted (Kept at ∷ sources) rises =
     ∙ ap (λ xs. inserted ++ xs) (copy_from-split text at (suc at) later (omega arith) (laid_between (suc at) (length text) [] sources rises.1))
     ∙ ap (λ xs. inserted ++ (xs ++ copy_from text (suc at) later)) unit
     ∙ ap (λ xs. inserted ++ (slice_index text at ∷ xs)) (copy_between text (suc at) [] sources rises.1)
-copy_between text place inserted (New unit ∷ sources) rises =
+copy_between text place inserted (new_unit unit ∷ sources) rises =
     copy_between text place (inserted ++ unit ∷ []) sources rises ∙ append_assoc inserted (unit ∷ []) (map (unit_of text) sources)
 
 -- a letter is no surrogate: a text is cut before it and behind it
@@ -132,7 +130,7 @@ pub record IsKept (inserted : List ℕ) (place size at : ℕ) (left : List Sourc
   pub rising : IsAscending (suc at) size left
   pub later : IsText (map new_or_letter left)
 
-pub kept_next : (inserted : List ℕ) (place size at : ℕ) (left all : List Source) → all ≡ Kept at ∷ left → IsAscending place size all → IsText (inserted ++ map new_or_letter all)
+pub kept_next : (inserted : List ℕ) (place size at : ℕ) (left all : List Source) → all ≡ kept_at at ∷ left → IsAscending place size all → IsText (inserted ++ map new_or_letter all)
     → IsKept inserted place size at left
 kept_next inserted place size at left all is rises text =
     let rising = subst (IsAscending place size) is rises in
@@ -146,7 +144,7 @@ kept_next inserted place size at left all is rises text =
     }
 
 -- the operations where the next source is kept
-pub read_kept : (before after : List Operation) (inserted left_over : List ℕ) (place size at : ℕ) (left all : List Source) → all ≡ Kept at ∷ left
+pub read_kept : (before after : List Operation) (inserted left_over : List ℕ) (place size at : ℕ) (left all : List Source) → all ≡ kept_at at ∷ left
     → after ≡ before ++ gap place at inserted → left_over ≡ []
     → after ++ operations_between (at + 1) left_over size left ≡ before ++ operations_between place inserted size all
 read_kept before after inserted left_over place size at left all is grown nothing =
@@ -157,14 +155,14 @@ read_kept before after inserted left_over place size at left all is grown nothin
     ∙ ap (λ xs. before ++ operations_between place inserted size xs) (sym is)
 
 -- the operations where the next source is new
-pub read_new : (before : List Operation) (inserted grown : List ℕ) (place size unit : ℕ) (left all : List Source) → all ≡ New unit ∷ left
+pub read_new : (before : List Operation) (inserted grown : List ℕ) (place size unit : ℕ) (left all : List Source) → all ≡ new_unit unit ∷ left
     → grown ≡ inserted ++ unit ∷ []
     → before ++ operations_between place grown size left ≡ before ++ operations_between place inserted size all
 read_new before inserted grown place size unit left all is more =
     ap (λ us. before ++ operations_between place us size left) more
     ∙ ap (λ xs. before ++ operations_between place inserted size xs) (sym is)
 
-pub text_new : (inserted grown : List ℕ) (unit : ℕ) (left all : List Source) → all ≡ New unit ∷ left → grown ≡ inserted ++ unit ∷ []
+pub text_new : (inserted grown : List ℕ) (unit : ℕ) (left all : List Source) → all ≡ new_unit unit ∷ left → grown ≡ inserted ++ unit ∷ []
     → IsText (inserted ++ map new_or_letter all) → IsText (grown ++ map new_or_letter left)
 text_new inserted grown unit left all is more text =
     let same : inserted ++ map new_or_letter all ≡ grown ++ map new_or_letter left =
@@ -195,10 +193,10 @@ pub spaced_between : (place size : ℕ) (inserted : List ℕ) (sources : List So
 spaced_between place size inserted [] rises =
     subst (IsSpaced place) (append-nil (gap place size inserted))
     (spaced_gap place size inserted [] (gap place size inserted) (gap_cases place size inserted) rises tt)
-spaced_between place size inserted (Kept at ∷ sources) rises =
+spaced_between place size inserted (kept_at at ∷ sources) rises =
     spaced_gap place at inserted (operations_between (suc at) [] size sources) (gap place at inserted) (gap_cases place at inserted) rises.0
     (spaced_between (suc at) size [] sources rises.1)
-spaced_between place size inserted (New unit ∷ sources) rises = spaced_between place size (inserted ++ unit ∷ []) sources rises
+spaced_between place size inserted (new_unit unit ∷ sources) rises = spaced_between place size (inserted ++ unit ∷ []) sources rises
 
 untouched_at : (low index : ℕ) (operations : List Operation) (earlier later : Operation) → IsSpaced low operations
     → slice_get operations index ≡ Some earlier → slice_get operations (suc index) ≡ Some later → end_of earlier < later.offset

@@ -7,27 +7,25 @@ use Rattle.pad_patch.specs.declared.operation.Operation.{Operation}
 use Rattle.pad_patch.specs.declared.patch.Patch.{Patch}
 use Rattle.pad_patch.specs.Piece.{Piece, keep, new_units, end_of, pieces, pieces_from, units_of_piece, text_after}
 use Rattle.pad_patch.proofs.Laid.{IsLaid}
-use Rattle.pad_merge.specs.declared.source.Source.{Source}
-use Rattle.pad_merge.specs.declared.source.Source.TheVariants.{Kept, New}
-use Rattle.pad_merge.specs.Source.{kept_from, sources_of_piece, sources_after, unit_of, IsAscending}
+use Rattle.pad_merge.specs.Source.{Source, kept_at, new_unit, kept_from, sources_of_piece, sources_after, unit_of, IsAscending}
 
-map-take : {A B : Type 0} (f : A → B) (n : ℕ) (xs : List A) → map f (take n xs) ≡ take n (map f xs)
+pub map-take : {A B : Type 0} (f : A → B) (n : ℕ) (xs : List A) → map f (take n xs) ≡ take n (map f xs)
 map-take f zero xs = refl
 map-take f (suc n) [] = refl
 map-take f (suc n) (x ∷ xs) = ap (λ ys. f x ∷ ys) (map-take f n xs)
 
-map-drop : {A B : Type 0} (f : A → B) (n : ℕ) (xs : List A) → map f (drop n xs) ≡ drop n (map f xs)
+pub map-drop : {A B : Type 0} (f : A → B) (n : ℕ) (xs : List A) → map f (drop n xs) ≡ drop n (map f xs)
 map-drop f zero xs = refl
 map-drop f (suc n) [] = refl
 map-drop f (suc n) (x ∷ xs) = map-drop f n xs
 
 -- a reading of sources as units, which reads a new unit as it is
 abbrev pub ReadsNew : (Source → ℕ) → Type 0
-ReadsNew read = (unit : ℕ) → read (New unit) ≡ unit
+ReadsNew read = (unit : ℕ) → read (new_unit unit) ≡ unit
 
-map-new : (read : Source → ℕ) (units : List ℕ) → ReadsNew read → map read (map New units) ≡ units
+map-new : (read : Source → ℕ) (units : List ℕ) → ReadsNew read → map read (map new_unit units) ≡ units
 map-new read [] new = refl
-map-new read (unit ∷ units) new = ap (λ u. u ∷ map read (map New units)) (new unit) ∙ ap (λ us. unit ∷ us) (map-new read units new)
+map-new read (unit ∷ units) new = ap (λ u. u ∷ map read (map new_unit units)) (new unit) ∙ ap (λ us. unit ∷ us) (map-new read units new)
 
 -- reading a copy of sources is copying what they are read as
 map-pieces : (read : Source → ℕ) (sources : List Source) (parts : List Piece) → ReadsNew read
@@ -38,7 +36,7 @@ map-pieces read sources (keep from count ∷ parts) new =
     ∙ ap (λ xs. xs ++ map read (flat_map (sources_of_piece sources) parts)) (map-take read count (drop from sources) ∙ ap (take count) (map-drop read from sources))
     ∙ ap (λ xs. take count (drop from (map read sources)) ++ xs) (map-pieces read sources parts new)
 map-pieces read sources (new_units units ∷ parts) new =
-    map-append read (map New units) (flat_map (sources_of_piece sources) parts)
+    map-append read (map new_unit units) (flat_map (sources_of_piece sources) parts)
     ∙ ap (λ xs. xs ++ map read (flat_map (sources_of_piece sources) parts)) (map-new read units new)
     ∙ ap (λ xs. units ++ xs) (map-pieces read sources parts new)
 
@@ -68,18 +66,18 @@ map-kept_all text size is = map-kept_from text 0 size (omega arith) ∙ take_all
 
 pub ascending_bounds : (low high : ℕ) (sources : List Source) → IsAscending low high sources → low ≤ high
 ascending_bounds low high [] rises = rises
-ascending_bounds low high (Kept at ∷ sources) rises = let above = ascending_bounds (suc at) high sources rises.1 in omega (arith, above, rises.0)
-ascending_bounds low high (New unit ∷ sources) rises = ascending_bounds low high sources rises
+ascending_bounds low high (kept_at at ∷ sources) rises = let above = ascending_bounds (suc at) high sources rises.1 in omega (arith, above, rises.0)
+ascending_bounds low high (new_unit unit ∷ sources) rises = ascending_bounds low high sources rises
 
 ascending_lower : (low lower high : ℕ) (sources : List Source) → lower ≤ low → IsAscending low high sources → IsAscending lower high sources
 ascending_lower low lower high [] order rises = omega arith
-ascending_lower low lower high (Kept at ∷ sources) order rises = (omega (arith, rises.0), rises.1)
-ascending_lower low lower high (New unit ∷ sources) order rises = ascending_lower low lower high sources order rises
+ascending_lower low lower high (kept_at at ∷ sources) order rises = (omega (arith, rises.0), rises.1)
+ascending_lower low lower high (new_unit unit ∷ sources) order rises = ascending_lower low lower high sources order rises
 
 pub ascending_append : (low middle high : ℕ) (xs ys : List Source) → IsAscending low middle xs → IsAscending middle high ys → IsAscending low high (xs ++ ys)
 ascending_append low middle high [] ys first second = ascending_lower middle low high ys first second
-ascending_append low middle high (Kept at ∷ xs) ys first second = (first.0, ascending_append (suc at) middle high xs ys first.1 second)
-ascending_append low middle high (New unit ∷ xs) ys first second = ascending_append low middle high xs ys first second
+ascending_append low middle high (kept_at at ∷ xs) ys first second = (first.0, ascending_append (suc at) middle high xs ys first.1 second)
+ascending_append low middle high (new_unit unit ∷ xs) ys first second = ascending_append low middle high xs ys first second
 
 -- a place between two parts of sources
 record IsBetween (low high : ℕ) (xs ys : List Source) : Type 0 where
@@ -89,14 +87,14 @@ record IsBetween (low high : ℕ) (xs ys : List Source) : Type 0 where
 
 ascending_split : (low high : ℕ) (xs ys : List Source) → IsAscending low high (xs ++ ys) → IsBetween low high xs ys
 ascending_split low high [] ys rises = record { middle = low; first = omega arith; second = rises }
-ascending_split low high (Kept at ∷ xs) ys rises =
+ascending_split low high (kept_at at ∷ xs) ys rises =
     let rest = ascending_split (suc at) high xs ys rises.1 in
     record { middle = rest.middle; first = (rises.0, rest.first); second = rest.second }
-ascending_split low high (New unit ∷ xs) ys rises =
+ascending_split low high (new_unit unit ∷ xs) ys rises =
     let rest = ascending_split low high xs ys rises in
     record { middle = rest.middle; first = rest.first; second = rest.second }
 
-ascending_new : (low : ℕ) (units : List ℕ) → IsAscending low low (map New units)
+ascending_new : (low : ℕ) (units : List ℕ) → IsAscending low low (map new_unit units)
 ascending_new low [] = omega arith
 ascending_new low (unit ∷ units) = ascending_new low units
 
@@ -130,9 +128,9 @@ ascending_from sources low high place (operation ∷ operations) (starts, inside
     (subst (IsAscending head.middle high) (sym (range-drop start end sources order)) head.second) in
     let behind = ascending_lower removed.middle head.middle high (drop end sources) (ascending_bounds head.middle removed.middle (take (end - start) (drop start sources)) removed.first) removed.second in
     let later = ascending_from sources head.middle high end operations rest behind in
-    ascending_append low head.middle high (take (start - place) (drop place sources)) (map New operation.insert ++ flat_map (sources_of_piece sources) (pieces_from end (length sources) operations))
+    ascending_append low head.middle high (take (start - place) (drop place sources)) (map new_unit operation.insert ++ flat_map (sources_of_piece sources) (pieces_from end (length sources) operations))
     head.first
-    (ascending_append head.middle head.middle high (map New operation.insert) (flat_map (sources_of_piece sources) (pieces_from end (length sources) operations)) (ascending_new head.middle operation.insert) later)
+    (ascending_append head.middle head.middle high (map new_unit operation.insert) (flat_map (sources_of_piece sources) (pieces_from end (length sources) operations)) (ascending_new head.middle operation.insert) later)
 
 pub ascending_after : (patch : Patch) (sources : List Source) (low high : ℕ) → IsLaid 0 (length sources) patch.ops → IsAscending low high sources → IsAscending low high (sources_after patch sources)
 ascending_after patch sources low high laid_out rises = ascending_from sources low high 0 patch.ops laid_out rises
@@ -144,10 +142,10 @@ drop-next items index item within is =
     drop-cons items index item within ∙ ap (λ x. x ∷ drop (suc index) items) (sym is) ∙ ap (λ n. item ∷ drop n items) (sym (add-one index))
 
 -- one more kept unit
-pub kept_from-next : (place size : ℕ) → place < size → kept_from place (size - place) ≡ Kept place ∷ kept_from (place + 1) (size - (place + 1))
+pub kept_from-next : (place size : ℕ) → place < size → kept_from place (size - place) ≡ kept_at place ∷ kept_from (place + 1) (size - (place + 1))
 kept_from-next place size below =
     let count : size - place ≡ suc (size - (place + 1)) = omega arith in
-    ap (kept_from place) count ∙ ap (λ n. Kept place ∷ kept_from n (size - (place + 1))) (sym (add-one place))
+    ap (kept_from place) count ∙ ap (λ n. kept_at place ∷ kept_from n (size - (place + 1))) (sym (add-one place))
 
 pub kept_from-end : (place size : ℕ) → size ≤ place → kept_from place (size - place) ≡ []
 kept_from-end place size past = let none : size - place ≡ 0 = omega arith in ap (kept_from place) none
@@ -161,14 +159,14 @@ drop-read items index past item within is =
 -- one more operation of a copy of sources
 pub copied_next : (sources : List Source) (place start end : ℕ) (operation : Operation) (later all : List Operation) (units : List ℕ) (before middle after : List Source)
     → all ≡ operation ∷ later → start ≡ operation.offset → end ≡ end_of operation → units ≡ operation.insert
-    → middle ≡ before ++ take (start - place) (drop place sources) → after ≡ middle ++ map New units
+    → middle ≡ before ++ take (start - place) (drop place sources) → after ≡ middle ++ map new_unit units
     → after ++ flat_map (sources_of_piece sources) (pieces_from end (length sources) later) ≡ before ++ flat_map (sources_of_piece sources) (pieces_from place (length sources) all)
 copied_next sources place start end operation later all units before middle after split starts ends inserts kept grown =
     let rest = flat_map (sources_of_piece sources) (pieces_from (end_of operation) (length sources) later) in
     let range = take (operation.offset - place) (drop place sources) in
-    let new = map New operation.insert in
+    let new = map new_unit operation.insert in
     ap (λ n. after ++ flat_map (sources_of_piece sources) (pieces_from n (length sources) later)) ends
-    ∙ ap (λ xs. xs ++ rest) (grown ∙ ap (λ us. middle ++ map New us) inserts ∙ ap (λ xs. xs ++ new) (kept ∙ ap (λ n. before ++ take (n - place) (drop place sources)) starts))
+    ∙ ap (λ xs. xs ++ rest) (grown ∙ ap (λ us. middle ++ map new_unit us) inserts ∙ ap (λ xs. xs ++ new) (kept ∙ ap (λ n. before ++ take (n - place) (drop place sources)) starts))
     ∙ append_assoc (before ++ range) new rest
     ∙ append_assoc before range (new ++ rest)
     ∙ ap (λ os. before ++ flat_map (sources_of_piece sources) (pieces_from place (length sources) os)) (sym split)

@@ -1,5 +1,5 @@
 -- Insertions that are taken back leave no operation.
-use Rattle.std.proofs.Common.{◌≡◌, ℕ, zero, suc, ◌+◌, ◌-◌, ◌<◌, ◌≤◌, List, [], ◌∷◌, ◌++◌, length, map, take, drop, refl, sym, ◌∙◌, ap, subst, arith, append_assoc}
+use Rattle.std.proofs.Common.{◌≡◌, ℕ, zero, suc, ◌+◌, ◌-◌, List, [], ◌∷◌, ◌++◌, length, map, take, drop, refl, sym, ◌∙◌, ap, arith, append_assoc}
 use Rattle.std.specs.Prelude.{Some, slice_get}
 use Rattle.std.specs.List.{flat_map}
 use Rattle.std.proofs.lemmas.List.{append-nil, take_all, take_at, drop_at, length-append, length-map}
@@ -10,9 +10,7 @@ use Rattle.pad_patch.specs.UnitStore.{between}
 use Rattle.pad_patch.specs.Misfit.{IsOperation, Overlaps, EndsAfter}
 use Rattle.pad_patch.specs.Inverse.{inverse, inverse_operations}
 use Rattle.pad_patch.proofs.Laid.{IsLaid, laid}
-use Rattle.pad_merge.specs.declared.source.Source.{Source}
-use Rattle.pad_merge.specs.declared.source.Source.TheVariants.{Kept, New}
-use Rattle.pad_merge.specs.Source.{kept_from, sources_of_piece, sources_of, sources_after}
+use Rattle.pad_merge.specs.Source.{Source, kept_at, new_unit, kept_from, sources_of_piece, sources_of}
 use Rattle.pad_merge.specs.Merge.{operations_between, merged}
 use Rattle.pad_merge.proofs.Sources.{length-kept_from}
 use Rattle.pad_merge.proofs.Readback.{copy_of, range_kept, gap-none, read_row}
@@ -26,8 +24,8 @@ kept-append place zero second =
 kept-append place (suc first) second =
     let there : place + suc first ≡ suc place + first = omega arith in
     let all : suc (first + second) ≡ suc first + second = omega arith in
-    ap (λ n. Kept place ∷ (kept_from (suc place) first ++ kept_from n second)) there
-    ∙ ap (λ xs. Kept place ∷ xs) (kept-append (suc place) first second)
+    ap (λ n. kept_at place ∷ (kept_from (suc place) first ++ kept_from n second)) there
+    ∙ ap (λ xs. kept_at place ∷ xs) (kept-append (suc place) first second)
     ∙ ap (kept_from place) all
 
 -- no operation removes a unit
@@ -54,7 +52,7 @@ kept_back size text sources front inserted removed place (operation ∷ operatio
     let end = end_of operation in
     let offset = start + inserted - removed in
     let range = take (start - place) (drop place (kept_from 0 size)) in
-    let units = map New operation.insert in
+    let units = map new_unit operation.insert in
     let later = copy_of size end operations in
     let inserted_next = inserted + length operation.insert in
     let removed_next = removed + operation.remove in
@@ -66,12 +64,12 @@ kept_back size text sources front inserted removed place (operation ∷ operatio
     let head : take (offset - here) (drop here sources) ≡ kept_from place (start - place) =
     ap (λ n. take n (drop here sources)) distance ∙ ap (take (start - place)) behind ∙ take_at range (units ++ later) (start - place) range_size ∙ kept_range in
     let nothing : end - start ≡ 0 = omega arith in
-    let middle : map New (between start end text) ≡ [] = ap (λ n. map New (take n (drop start text))) nothing in
+    let middle : map new_unit (between start end text) ≡ [] = ap (λ n. map new_unit (take n (drop start text))) nothing in
     let there : offset + length operation.insert ≡ end + inserted_next - removed_next = omega arith in
     let whole_next : sources ≡ ((front ++ range) ++ units) ++ later =
     whole ∙ sym (append_assoc (front ++ range) units later ∙ append_assoc front range (units ++ later)) in
     let at_next : length ((front ++ range) ++ units) ≡ end + inserted_next - removed_next =
-    omega (arith, length-append (front ++ range) units, length-append front range, length-map operation.insert New, range_size, at) in
+    omega (arith, length-append (front ++ range) units, length-append front range, length-map operation.insert new_unit, range_size, at) in
     let inverses = inverse_operations inserted_next removed_next text operations in
     let tail : flat_map (sources_of_piece sources) (pieces_from (offset + length operation.insert) (length sources) inverses) ≡ kept_from end (size - end) =
     ap (λ n. flat_map (sources_of_piece sources) (pieces_from n (length sources) inverses)) there
@@ -79,7 +77,7 @@ kept_back size text sources front inserted removed place (operation ∷ operatio
     (λ index later_one is. keeps (suc index) later_one is) whole_next at_next in
     let end_there : end ≡ place + (start - place) = omega arith in
     let count : (start - place) + (size - end) ≡ size - place = omega arith in
-    ap (λ xs. xs ++ (map New (between start end text) ++ flat_map (sources_of_piece sources) (pieces_from (offset + length operation.insert) (length sources) inverses))) head
+    ap (λ xs. xs ++ (map new_unit (between start end text) ++ flat_map (sources_of_piece sources) (pieces_from (offset + length operation.insert) (length sources) inverses))) head
     ∙ ap (λ xs. kept_from place (start - place) ++ (xs ++ flat_map (sources_of_piece sources) (pieces_from (offset + length operation.insert) (length sources) inverses))) middle
     ∙ ap (λ xs. kept_from place (start - place) ++ xs) tail
     ∙ ap (λ n. kept_from place (start - place) ++ kept_from n (size - end)) end_there

@@ -1,10 +1,15 @@
 -- What holds of the merge of any two patches.
-use Rattle.std.specs.Prelude.{◌≡◌, ℕ, List, [], length}
+use Rattle.std.specs.Prelude.{◌≡◌, ℕ, ◌<◌, Some, List, [], length, slice_get}
+use Rattle.std.specs.List.{filter_map, range_with_len}
+use Rattle.std.specs.List.Sorted.{IsStrictlyIncreasing}
 use Rattle.pad_patch.specs.declared.operation.Operation.{Operation}
 use Rattle.pad_patch.specs.declared.patch.Patch.{Patch}
-use Rattle.pad_patch.specs.Piece.{text_after}
+use Rattle.pad_patch.specs.Piece.{text_after, inserted}
 use Rattle.pad_patch.specs.Misfit.{IsOperation, Overlaps, EndsAfter, CanApply}
 use Rattle.pad_patch.specs.Inverse.{inverse}
+use Rattle.pad_merge.specs.declared.origin.Origin.{Origin}
+use Rattle.pad_merge.specs.declared.origin.Origin.TheVariants.{Second}
+use Rattle.pad_merge.specs.Origin.{origins, named_unit, first_place, second_place}
 use Rattle.pad_merge.specs.Merge.{merged, CanMerge, IsNormal}
 
 -- patches that can be applied to a text one after the other can be merged
@@ -28,3 +33,38 @@ InsertionsTakenBack =
     (patch : Patch) (text : List ℕ) → ((index : ℕ) → ¬ (Overlaps patch index)) → ((index : ℕ) → ¬ (EndsAfter patch (length text) index))
     → ((index : ℕ) (operation : Operation) → IsOperation patch index operation → operation.remove ≡ 0)
     → (merged patch (inverse patch text) (length text)).ops ≡ []
+
+-- a patch in normal form is in order
+abbrev pub NormalIsOrdered : Type 0
+NormalIsOrdered = (patch : Patch) → IsNormal patch → (index : ℕ) → ¬ (Overlaps patch index)
+
+-- there is one origin for each unit that a merge inserts
+abbrev pub OneOriginEach : Type 0
+OneOriginEach = (first second : Patch) (size : ℕ) → length (origins first second size) ≡ length (inserted (merged first second size))
+
+-- an origin names the unit that the merge inserts in its place
+abbrev pub OriginsNameUnits : Type 0
+OriginsNameUnits =
+    (first second : Patch) (size index : ℕ) (origin : Origin) → slice_get (origins first second size) index ≡ Some origin
+    → (unit : ℕ) × (named_unit first second origin ≡ Some unit) × (slice_get (inserted (merged first second size)) index ≡ Some unit)
+
+-- no origin stands twice
+abbrev pub NoOriginTwice : Type 0
+NoOriginTwice =
+    (first second : Patch) (size : ℕ) → CanMerge first second size
+    → (index other : ℕ) (origin : Origin) → slice_get (origins first second size) index ≡ Some origin → slice_get (origins first second size) other ≡ Some origin → index ≡ other
+
+-- the places in the first patch rise: a merge keeps the order of the units that it keeps of it
+abbrev pub FirstPlacesRise : Type 0
+FirstPlacesRise =
+    (first second : Patch) (size : ℕ) → CanMerge first second size → IsStrictlyIncreasing (filter_map first_place (origins first second size))
+
+-- the places in the second patch are all that there are, in order: a merge keeps every unit that the second patch inserts
+abbrev pub SecondStandsWhole : Type 0
+SecondStandsWhole =
+    (first second : Patch) (size : ℕ) → filter_map second_place (origins first second size) ≡ range_with_len 0 (length (inserted second))
+
+-- and each of them is the place of an origin
+abbrev pub EachOfSecondStands : Type 0
+EachOfSecondStands =
+    (first second : Patch) (size place : ℕ) → place < length (inserted second) → (index : ℕ) × (slice_get (origins first second size) index ≡ Some (Second place))

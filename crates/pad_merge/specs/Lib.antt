@@ -1,3 +1,5 @@
 pub mod Source
+pub mod Origin
+pub mod CopiedUnit
 pub mod Merge
 pub mod Laws

@@ -5,9 +5,7 @@ use Rattle.pad_patch.specs.declared.operation.Operation.{Operation}
 use Rattle.pad_patch.specs.declared.patch.Patch.{Patch}
 use Rattle.pad_patch.specs.Piece.{end_of, length_after}
 use Rattle.pad_patch.specs.Misfit.{IsOperation, Overlaps, EndsAfter}
-use Rattle.pad_merge.specs.declared.source.Source.{Source}
-use Rattle.pad_merge.specs.declared.source.Source.TheVariants.{Kept, New}
-use Rattle.pad_merge.specs.Source.{sources_of, sources_after}
+use Rattle.pad_merge.specs.Source.{Source, kept_at, new_unit, sources_of, sources_after}
 
 -- the operation that puts new units in place of those from one place to another; none where both are none
 abbrev pub gap : ℕ → ℕ → List ℕ → List Operation
@@ -18,8 +16,8 @@ gap from to (unit ∷ units) = record { offset = from; remove = to - from; inser
 -- where `place` is behind the last kept unit, and so many units were new since
 abbrev pub operations_between : ℕ → List ℕ → ℕ → List Source → List Operation
 operations_between place inserted size [] = gap place size inserted
-operations_between place inserted size (Kept at ∷ sources) = gap place at inserted ++ operations_between (suc at) [] size sources
-operations_between place inserted size (New unit ∷ sources) = operations_between place (inserted ++ unit ∷ []) size sources
+operations_between place inserted size (kept_at at ∷ sources) = gap place at inserted ++ operations_between (suc at) [] size sources
+operations_between place inserted size (new_unit unit ∷ sources) = operations_between place (inserted ++ unit ∷ []) size sources
 
 -- the merge of two patches, of a text of `size` units
 unfoldable pub merged : Patch → Patch → ℕ → Patch
@@ -32,8 +30,8 @@ pub record IsNormal (patch : Patch) : Type 0 where
 
 -- a new unit as it is, and a letter for a kept one
 abbrev pub new_or_letter : Source → ℕ
-new_or_letter (Kept place) = 0x61
-new_or_letter (New unit) = unit
+new_or_letter (kept_at place) = 0x61
+new_or_letter (new_unit unit) = unit
 
 -- the place stands between the two units of a pair that the patch inserts, as they stand after it
 abbrev pub CutsInserted : Patch → ℕ → ℕ → Type 0

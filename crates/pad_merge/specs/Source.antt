@@ -2,19 +2,24 @@
 use Rattle.std.specs.Prelude.{ℕ, zero, suc, ◌≤◌, List, [], ◌∷◌, length, map, take, drop, slice_index}
 use Rattle.std.specs.List.{flat_map}
 use Rattle.pad_patch.specs.declared.patch.Patch.{Patch}
-use Rattle.pad_merge.specs.declared.source.Source.{Source}
-use Rattle.pad_merge.specs.declared.source.Source.TheVariants.{Kept, New}
 use Rattle.pad_patch.specs.Piece.{Piece, keep, new_units, pieces}
+
+-- where one unit of a copy comes from
+pub data Source : Type 0 where
+  -- the unit of the text at this place
+  kept_at : (place : ℕ) → Source
+  -- this new unit
+  new_unit : (unit : ℕ) → Source
 
 -- so many units of the text, from a place on
 abbrev pub kept_from : ℕ → ℕ → List Source
 kept_from place zero = []
-kept_from place (suc count) = Kept place ∷ kept_from (suc place) count
+kept_from place (suc count) = kept_at place ∷ kept_from (suc place) count
 
 -- the sources of a piece of the copy of units that have these sources
 abbrev pub sources_of_piece : List Source → Piece → List Source
 sources_of_piece sources (keep from count) = take count (drop from sources)
-sources_of_piece sources (new_units units) = map New units
+sources_of_piece sources (new_units units) = map new_unit units
 
 -- the sources of the units after a patch of units that have these sources
 abbrev pub sources_after : Patch → List Source → List Source
@@ -26,11 +31,11 @@ sources_of patch size = sources_after patch (kept_from 0 size)
 
 -- the unit that a source stands for in a text
 abbrev pub unit_of : List ℕ → Source → ℕ
-unit_of text (Kept place) = slice_index text place
-unit_of text (New unit) = unit
+unit_of text (kept_at place) = slice_index text place
+unit_of text (new_unit unit) = unit
 
 -- the places of kept units rise from `low` on, and stay below `high`
 abbrev pub IsAscending : ℕ → ℕ → List Source → Type 0
 IsAscending low high [] = low ≤ high
-IsAscending low high (Kept at ∷ sources) = (low ≤ at) × IsAscending (suc at) high sources
-IsAscending low high (New unit ∷ sources) = IsAscending low high sources
+IsAscending low high (kept_at place ∷ sources) = (low ≤ place) × IsAscending (suc place) high sources
+IsAscending low high (new_unit unit ∷ sources) = IsAscending low high sources

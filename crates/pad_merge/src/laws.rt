@@ -1,5 +1,6 @@
 //! Laws over the definitions, each proved once.
-ghost use Rattle.pad_merge.specs.Laws.{AppliedPatchesMerge, EmptyFirst, EmptySecond, InsertionsTakenBack};
+ghost use Rattle.pad_merge.specs.Laws.{AppliedPatchesMerge, EmptyFirst, EmptySecond, InsertionsTakenBack, NormalIsOrdered};
+ghost use Rattle.pad_merge.specs.Laws.{OneOriginEach, OriginsNameUnits};
 
 /// Patches that can be applied to a text one after the other can be merged.
 pub fn applied_patches_merge()
@@ -19,4 +20,19 @@ pub fn empty_second()
 /// Insertions that are taken back leave no operation.
 pub fn insertions_taken_back()
     ensures { InsertionsTakenBack }
+{}
+
+/// A patch in normal form is in order.
+pub fn normal_is_ordered()
+    ensures { NormalIsOrdered }
+{}
+
+/// There is one origin for each unit that a merge inserts.
+pub fn one_origin_each()
+    ensures { OneOriginEach }
+{}
+
+/// An origin names the unit that the merge inserts in its place.
+pub fn origins_name_units()
+    ensures { OriginsNameUnits }
 {}
