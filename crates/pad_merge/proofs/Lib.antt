@@ -6,3 +6,4 @@ pub mod Readback
 pub mod Applied
 pub mod TakenBack
 pub mod Named
+pub mod Places

@@ -17,7 +17,7 @@ use Rattle.pad_merge.specs.Merge.{gap, operations_between, merged}
 use Rattle.pad_merge.proofs.Reading.{none, one, gap_cases}
 
 -- the units that operations insert, joined
-abbrev insertions : List Operation → List ℕ
+abbrev pub insertions : List Operation → List ℕ
 insertions operations = flat_map (λ (operation : Operation). operation.insert) operations
 
 -- each new unit has an origin, which names it, and no kept unit has one
@@ -116,12 +116,21 @@ names_after name number patch sources found told named =
     subst (λ n. Names name (sources_after patch sources) (origins_of_pieces number found 0 (pieces patch n))) (names_length name sources found named)
     (names_copy name number (inserted patch) [] sources found 0 (length sources) patch.ops told refl named)
 
+names_first : (first second : Patch) (size : ℕ) → Names (named_unit first second) (sources_of first size) (origins_after First first (replicate size None))
+names_first first second size =
+    names_after (named_unit first second) First first (kept_from 0 size) (replicate size None) (λ place. refl) (names_kept (named_unit first second) 0 size)
+
+-- there are as many of them as units after the first patch
+pub length-origins_first : (first : Patch) (size : ℕ) → length (sources_of first size) ≡ length (origins_after First first (replicate size None))
+length-origins_first first size =
+    names_length (named_unit first first) (sources_of first size) (origins_after First first (replicate size None)) (names_first first first size)
+
 -- those after both patches of a merge
 names_both : (first second : Patch) (size : ℕ)
     → Names (named_unit first second) (sources_after second (sources_of first size)) (origins_after Second second (origins_after First first (replicate size None)))
 names_both first second size =
     names_after (named_unit first second) Second second (sources_of first size) (origins_after First first (replicate size None)) (λ place. refl)
-    (names_after (named_unit first second) First first (kept_from 0 size) (replicate size None) (λ place. refl) (names_kept (named_unit first second) 0 size))
+    (names_first first second size)
 
 -- the new units of a copy
 abbrev new_of : List Source → List ℕ

@@ -69,7 +69,7 @@ ascending_bounds low high [] rises = rises
 ascending_bounds low high (kept_at at ∷ sources) rises = let above = ascending_bounds (suc at) high sources rises.1 in omega (arith, above, rises.0)
 ascending_bounds low high (new_unit unit ∷ sources) rises = ascending_bounds low high sources rises
 
-ascending_lower : (low lower high : ℕ) (sources : List Source) → lower ≤ low → IsAscending low high sources → IsAscending lower high sources
+pub ascending_lower : (low lower high : ℕ) (sources : List Source) → lower ≤ low → IsAscending low high sources → IsAscending lower high sources
 ascending_lower low lower high [] order rises = omega arith
 ascending_lower low lower high (kept_at at ∷ sources) order rises = (omega (arith, rises.0), rises.1)
 ascending_lower low lower high (new_unit unit ∷ sources) order rises = ascending_lower low lower high sources order rises
@@ -80,12 +80,12 @@ ascending_append low middle high (kept_at at ∷ xs) ys first second = (first.0,
 ascending_append low middle high (new_unit unit ∷ xs) ys first second = ascending_append low middle high xs ys first second
 
 -- a place between two parts of sources
-record IsBetween (low high : ℕ) (xs ys : List Source) : Type 0 where
-  middle : ℕ
-  first : IsAscending low middle xs
-  second : IsAscending middle high ys
+pub record IsBetween (low high : ℕ) (xs ys : List Source) : Type 0 where
+  pub middle : ℕ
+  pub first : IsAscending low middle xs
+  pub second : IsAscending middle high ys
 
-ascending_split : (low high : ℕ) (xs ys : List Source) → IsAscending low high (xs ++ ys) → IsBetween low high xs ys
+pub ascending_split : (low high : ℕ) (xs ys : List Source) → IsAscending low high (xs ++ ys) → IsBetween low high xs ys
 ascending_split low high [] ys rises = record { middle = low; first = omega arith; second = rises }
 ascending_split low high (kept_at at ∷ xs) ys rises =
     let rest = ascending_split (suc at) high xs ys rises.1 in

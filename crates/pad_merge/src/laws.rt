@@ -1,6 +1,6 @@
 //! Laws over the definitions, each proved once.
 ghost use Rattle.pad_merge.specs.Laws.{AppliedPatchesMerge, EmptyFirst, EmptySecond, InsertionsTakenBack, NormalIsOrdered};
-ghost use Rattle.pad_merge.specs.Laws.{OneOriginEach, OriginsNameUnits};
+ghost use Rattle.pad_merge.specs.Laws.{OneOriginEach, OriginsNameUnits, NoOriginTwice, FirstPlacesRise, SecondStandsWhole, EachOfSecondStands};
 
 /// Patches that can be applied to a text one after the other can be merged.
 pub fn applied_patches_merge()
@@ -35,4 +35,24 @@ pub fn one_origin_each()
 /// An origin names the unit that the merge inserts in its place.
 pub fn origins_name_units()
     ensures { OriginsNameUnits }
+{}
+
+/// No origin stands twice.
+pub fn no_origin_twice()
+    ensures { NoOriginTwice }
+{}
+
+/// A merge keeps the order of the units that it keeps of the first patch.
+pub fn first_places_rise()
+    ensures { FirstPlacesRise }
+{}
+
+/// A merge keeps every unit that the second patch inserts, in order.
+pub fn second_stands_whole()
+    ensures { SecondStandsWhole }
+{}
+
+/// Each unit that the second patch inserts has an origin.
+pub fn each_of_second_stands()
+    ensures { EachOfSecondStands }
 {}

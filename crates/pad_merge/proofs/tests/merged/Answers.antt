@@ -11,8 +11,8 @@ of_ok : (P : Type 0) (answer : Result (Unit {0}) Misfit) → is_ok answer ≡ tr
 of_ok P (Ok nothing) is holds = holds
 of_ok P (Err misfit) is holds = cc
 
-pub merge-requires-clause-can : goal.merge-requires-clause-can
-merge-requires-clause-can c =
+pub row_of-requires-clause-can : goal.row_of-requires-clause-can
+row_of-requires-clause-can c =
     let first_ok : is_ok c.fits.result ≡ true = cc in
     let first = of_ok (CanApply c.in_ok-p.p c.in_ok-store.store.text) c.fits.result first_ok c.fits.ensures.applies in
     let second_ok : is_ok c.fits-then-length-lt100.result ≡ true = cc in
