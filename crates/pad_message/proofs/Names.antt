@@ -1,5 +1,5 @@
 -- A name is what 64 lower-case digits spell.
-use Rattle.std.proofs.Common.{◌≡◌, List, ℕ, ◌*◌, length, ap, subst, arith}
+use Rattle.std.proofs.Common.{◌≡◌, List, ℕ, length, ap, arith}
 use Rattle.hex.specs.Hex.{encode_lower, lower_digits}
 use Rattle.hex.proofs.HexLemmas.{length-encode_with}
 use Rattle.pad_text.specs.Digits.{IsDigits}
