@@ -2,7 +2,7 @@
 use Rattle.std.proofs.Common.{◌≡◌, ◌≤◌, ◌∙◌, ℕ, Bool, true, false, List, length, Result, Ok, Err, refl, sym, subst, ap, inl, inr, if◌then◌else◌, arith}
 use Rattle.disk_volume.specs.Calls.{Writes, Syncs}
 use Rattle.disk_volume.specs.Disk.{Act, File, Disk, did, wrote, synced, at_rest, after, file_at, reads, MayLeave, IsImage, AtRest, put, Partly}
-use Rattle.disk_volume.specs.Moments.{Grew, still, more, EachSince, EachNow}
+use Rattle.disk_volume.specs.Moments.{Grew, still, more, OnlySyncs, no_sync, one_sync, EachSince, EachNow}
 use Rattle.disk_volume.specs.Names.{file_at-here}
 use Rattle.disk_volume.specs.Images.{rest_leaves, write_leaves}
 use Rattle.disk_volume.specs.Since.{each_start, each_more, each_then, grew_then}
@@ -36,6 +36,11 @@ settled_grew (Err failed) name old new e = subst (Grew (λ file. file ≡ name) 
 -- these files, of which one is as a write may have left it in part
 abbrev Part : (name : List ℕ) (at size : ℕ) → Disk → (List ℕ → List ℕ) → Type 0
 Part name at size old image = Partly at size (reads old name) (image name)
+
+-- and no other act
+pub settled_syncs : {T E : Type 0} (result : Result T E) (name : List ℕ) (old new : Disk) → Syncs result name old new → OnlySyncs (λ file. file ≡ name) old new
+settled_syncs (Ok done) name old new e = subst (OnlySyncs (λ file. file ≡ name) old) (sym e) (one_sync refl no_sync)
+settled_syncs (Err failed) name old new e = subst (OnlySyncs (λ file. file ≡ name) old) (sym e) no_sync
 
 -- before the write
 part_before : (name : List ℕ) (at size : ℕ) (old : Disk) → AtRest old name → EachNow old (Part name at size old)

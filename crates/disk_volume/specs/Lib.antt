@@ -7,6 +7,7 @@ pub mod Images
 pub mod Memory
 pub mod Moments
 pub mod Names
+pub mod Others
 pub mod Pending
 pub mod Pick
 pub mod Replay

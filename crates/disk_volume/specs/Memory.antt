@@ -1,6 +1,7 @@
 -- A volume in memory.
 use Rattle.std.specs.Prelude.{◌≡◌, ◌⊎◌, ℕ, ◌+◌, ◌-◌, ◌^◌, ◌==◌, min, Bool, false, ◌||◌, List, [], ◌∷◌, ◌++◌, MatchBool, MatchResult, Result, Ok, Err, IsOk, IsErr, IsTrue, if◌then◌else◌}
 use Rattle.std.specs.List.{list_any}
+use Rattle.pad_edge.specs.Count.{counted}
 use Rattle.disk_volume.specs.Clock.{Ticked}
 use Rattle.disk_volume.specs.Disk.{Disk, began}
 use Rattle.disk_volume.specs.Folder.{bytes_in}
@@ -46,7 +47,7 @@ turn_of memory = if has_stopped memory.stop then Fails else if stops_in memory.s
 
 -- once that call has begun
 abbrev pub begun : Memory → Memory
-begun memory = record memory { calls = min (memory.calls + 1) (2 ^ 64 - 1); stop = stop_after memory.stop memory.calls }
+begun memory = record memory { calls = counted memory.calls; stop = stop_after memory.stop memory.calls }
 
 -- a call fails exactly where it is to fail or a growth was refused in it
 pub record FailsExactly {T E : Type 0} (result : Result T E) (old new : Memory) : Type 0 where

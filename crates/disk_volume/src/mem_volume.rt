@@ -1,6 +1,6 @@
 ghost use Rattle.std.specs.Prelude.{◌≡◌, ◌+◌, ◌-◌, ◌^◌, ◌≤◌, min, List, ℕ, [], ◌∷◌, ◌++◌, length, take, drop, IfOk, OnOk, OnErr, IsErr, IsTrue, ◌↔◌, MatchResult, is_ok, if◌then◌else◌};
 ghost use Rattle.std.specs.List.{list_any};
-ghost use Rattle.pad_edge.specs.Count.{Rose, HasCause};
+ghost use Rattle.pad_edge.specs.Count.{counted, Rose, HasCause};
 ghost use Rattle.disk_volume.specs.Calls.{Writes, Cuts, Syncs};
 ghost use Rattle.disk_volume.specs.Clock.{Ticked};
 ghost use Rattle.disk_volume.specs.Disk.{file_at, at_rest, reads, MayLeave, IsImage};
@@ -221,7 +221,7 @@ impl MemVolume {
 
     /// A call fails.
     fn fail(&mut self) -> Failed
-        ensures failed { self.new ≡ record self.old { faults = min (self.old.faults + 1) (2 ^ 64 - 1) } }
+        ensures failed { self.new ≡ record self.old { faults = counted self.old.faults } }
         ensures later { self.old.faults ≤ self.new.faults }
     {
         self.faults = self.faults.saturating_add(1);
@@ -233,8 +233,8 @@ impl MemVolume {
         ensures ok { IfOk result (λ value. (outcome ≡ Ok value) × (self.new ≡ self.old)) }
         ensures refused { IsErr result → IsErr outcome }
         ensures err { OnErr result (self.new ≡ record self.old {
-          starved = min (self.old.starved + 1) (2 ^ 64 - 1);
-          faults = min (self.old.faults + 1) (2 ^ 64 - 1);
+          starved = counted self.old.starved;
+          faults = counted self.old.faults;
         }) }
         ensures later { (self.old.starved ≤ self.new.starved) × (self.old.faults ≤ self.new.faults) }
     {

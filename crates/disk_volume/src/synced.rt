@@ -2,7 +2,7 @@ ghost use Rattle.std.specs.Prelude.{◌≡◌, ℕ, ◌+◌, ◌≤◌, List, le
 ghost use Rattle.pad_edge.specs.Count.{HasCause};
 ghost use Rattle.disk_volume.specs.Clock.{Ticked};
 ghost use Rattle.disk_volume.specs.Disk.{file_at, at_rest, reads, put, Partly, AtRest, IsImage};
-ghost use Rattle.disk_volume.specs.Moments.{Grew, EachSince};
+ghost use Rattle.disk_volume.specs.Moments.{Grew, OnlySyncs, EachSince};
 
 use crate::volume::Volume;
 use pad_edge::Failed;
@@ -34,6 +34,7 @@ pub fn settle<V: Volume>(volume: &mut V, file: &str) -> Result<(), Failed>
     ensures reads { V.tells → (name : List ℕ) → reads (V.disk volume.new) name ≡ reads (V.disk volume.old) name }
     ensures any_moment { V.tells → EachSince (V.disk volume.old) (V.disk volume.new) (IsImage (V.disk volume.old)) }
     ensures files { V.tells → Grew (λ name. name ≡ file.now) (V.disk volume.old) (V.disk volume.new) }
+    ensures syncs { V.tells → OnlySyncs (λ name. name ≡ file.now) (V.disk volume.old) (V.disk volume.new) }
     ensures clock { Ticked (V.clock volume.old) (V.clock volume.new) }
     ensures cause { HasCause (V.faults volume.old) (V.faults volume.new) result }
 {

@@ -2,9 +2,10 @@ ghost use Rattle.std.specs.Prelude.{◌≡◌, ℕ, ◌≤◌, List, length, tak
 ghost use Rattle.pad_edge.specs.Count.{HasCause};
 ghost use Rattle.disk_volume.specs.Calls.{Writes, Cuts, Syncs};
 ghost use Rattle.disk_volume.specs.Clock.{Ticked};
-ghost use Rattle.disk_volume.specs.Disk.{Disk, did, wrote, cut as cut_act, file_at, reads, IsImage};
+ghost use Rattle.disk_volume.specs.Disk.{Disk, did, wrote, cut as cut_act, file_at, reads, AtRest, IsImage};
 ghost use Rattle.disk_volume.specs.Images.{image_after_write, image_after_cut};
-ghost use Rattle.disk_volume.specs.Moments.{moment, LeftSince, Grew};
+ghost use Rattle.disk_volume.specs.Moments.{moment, LeftSince, LeftBefore, Grew, OnlySyncs, EachSince};
+ghost use Rattle.disk_volume.specs.Others.{others_leave as others_leave_since, syncs_rest};
 ghost use Rattle.disk_volume.specs.Since.{since_now, now_alone, elsewhere};
 
 use pad_edge::Failed;
@@ -85,8 +86,18 @@ pub trait Volume {
     ghost cuts_add: { (v : Self) (file : List ℕ) (to : ℕ) (now : List ℕ) (image : List ℕ → List ℕ) →
         IsImage (disk v) image → IsImage (did (cut_act to now) file (disk v)) image } = { λ v. image_after_cut (disk v) };
 
-    /// Calls on one file leave every other file as it was, and so what a crash may leave of it.
+    /// Acts on one file leave every other file as it was.
     ghost others_stay: { (before now : Self) (file other : List ℕ) →
         Grew (λ name. name ≡ file) (disk before) (disk now) → (other ≡ file → ⊥) →
         file_at (disk now) other ≡ file_at (disk before) other } = { λ before now file other. elsewhere (disk now) other };
+
+    /// A crash since they began leaves of all other files together what one crash before may have left.
+    ghost others_leave: { (before now : Self) (file : List ℕ) → tells →
+        Grew (λ name. name ≡ file) (disk before) (disk now) →
+        EachSince (disk before) (disk now) (LeftBefore (λ name. name ≡ file) (disk before)) } = { λ before now file told. others_leave_since (disk now) (as_it_reads before told) };
+
+    /// Syncs of one file leave a file on which nothing is pending as it was.
+    ghost syncs_leave: { (before now : Self) (file name : List ℕ) →
+        OnlySyncs (λ name. name ≡ file) (disk before) (disk now) → AtRest (disk before) name →
+        file_at (disk now) name ≡ file_at (disk before) name } = { λ before now file name. syncs_rest (disk now) name };
 }

@@ -2,173 +2,211 @@ use super::*;
 use std::process::Abort;
 use std::test::Fail;
 
-/// Calls on a file that stands as "abcd", the number of the call that fails, what a crash then may leave of the file,
-/// what it must not leave, and what each pick leaves: the old bytes, the new ones, and the new ones torn by `#`.
-///
-/// `w4ef` writes "ef" at 4, `c2` cuts to 2, `s` syncs, `o` writes and syncs another file, and `!` lets the next call
-/// stop. The first of these is the call 6, the next one 8, and 0 is a call that does not matter. `-` is the empty file.
-type Row = (
-    &'static str,
-    u64,
-    &'static str,
-    &'static str,
-    [&'static str; 3],
-);
+/// Calls on a file that stands as "abcd", and what is then left of it. `-` is the empty file.
+struct Row {
+    /// `w4ef` writes "ef" at 4, `c2` cuts to 2, `s` syncs, `o` writes and syncs another file, and `!` lets the next call
+    /// stop.
+    calls: &'static str,
+    /// The number of the call that fails: the first of these calls is the call 6, the next one 8. There is no call 99.
+    fails: u64,
+    /// What a crash then may leave of the file.
+    may: &'static str,
+    /// What it must not leave.
+    must_not: &'static str,
+    /// What each pick leaves: the old bytes, the new ones, and the new ones torn by `#`.
+    picks: [&'static str; 3],
+}
 
 const ROWS: [Row; 27] = [
-    (
-        "w1XY",
-        0,
-        "abcd aXYd aQRd aXcd",
-        "abc abcde ZXYd aXYZ -",
-        ["abcd", "aXYd", "a##d"],
-    ),
-    (
-        "w4ef",
-        0,
-        "abcd abcde abcdef abcdQ abcdQR",
-        "abc abcdefg abcQef",
-        ["abcd", "abcdef", "abcd##"],
-    ),
-    (
-        "w3XYZ",
-        0,
-        "abcd abcX abcQ abcQR abcXYZ",
-        "abc abQXYZ abcXYZQ",
-        ["abcd", "abcXYZ", "abc###"],
-    ),
-    (
-        "w0X w3Z",
-        0,
-        "abcd XbcZ QbcR XbcR",
-        "XQcZ XbQZ Xbc XbcZQ",
-        ["abcd", "XbcZ", "#bc#"],
-    ),
-    (
-        "w0XY w1Z",
-        0,
-        "XZcd QRcd abcd",
-        "XZQd XZc",
-        ["abcd", "XZcd", "##cd"],
-    ),
-    ("w4", 0, "abcd", "abc abcQ abcdQ", ["abcd", "abcd", "abcd"]),
-    (
-        "c2",
-        0,
-        "ab abc abcd",
-        "a abQ abcQ abcde",
-        ["abcd", "ab", "ab"],
-    ),
-    (
-        "c3 c1",
-        0,
-        "a ab abc abcd",
-        "- Q aQ abcde",
-        ["abcd", "a", "a"],
-    ),
-    ("c0", 0, "- a ab abc abcd", "Q abcdQ", ["abcd", "-", "-"]),
-    (
-        "c2 w0X",
-        0,
-        "Xb Qb abcd XbQR QbQ",
-        "X XQ XbQRS",
-        ["abcd", "Xb", "#b"],
-    ),
-    (
-        "c2 w2XYZ",
-        0,
-        "ab abQ abQRS abcd abXYZ",
-        "a aQXYZ abXYZQ",
-        ["abcd", "abXYZ", "ab###"],
-    ),
-    (
-        "c2 w2",
-        0,
-        "ab abQ abQR abcd",
-        "a aQ abQRS",
-        ["abcd", "ab", "ab"],
-    ),
-    (
-        "c3 w3XY c1",
-        0,
-        "a ab abc abcQ abcQR",
-        "- aQ aQcXY abcQRS",
-        ["abcd", "a", "a"],
-    ),
-    (
-        "w4ef c5",
-        0,
-        "abcd abcde abcdQ abcdQR",
-        "abc abcdefg abcQe",
-        ["abcd", "abcde", "abcd#"],
-    ),
-    (
-        "w4ef c2",
-        0,
-        "ab abc abcd abcdef abcdQR",
-        "a abQ abcQef abcdefg",
-        ["abcd", "ab", "ab"],
-    ),
-    ("c2 s", 0, "ab", "a abc abcd abQ", ["ab", "ab", "ab"]),
-    (
-        "w4ef s",
-        0,
-        "abcdef",
-        "abcd abcde abcdeQ abcdefg",
-        ["abcdef", "abcdef", "abcdef"],
-    ),
-    (
-        "w1XY s w0Z",
-        0,
-        "ZXYd aXYd QXYd",
-        "abcd ZbYd ZXY",
-        ["aXYd", "ZXYd", "#XYd"],
-    ),
-    ("c0 s w0hi", 0, "- Q h hi QR", "hiQ", ["-", "hi", "##"]),
-    (
-        "w4ef o",
-        0,
-        "abcd abcde abcdef abcdQ",
-        "abc abcdefg",
-        ["abcd", "abcdef", "abcd##"],
-    ),
-    ("w4ef", 6, "abcd", "abcde abcdef", ["abcd", "abcd", "abcd"]),
-    (
-        "w4ef s",
-        8,
-        "abcd abcde abcdef abcdQR",
-        "abc abcdefg",
-        ["abcd", "abcdef", "abcd##"],
-    ),
-    ("c2", 6, "abcd", "ab abc", ["abcd", "abcd", "abcd"]),
-    (
-        "! w4ef",
-        0,
-        "abcd abcde abcdef abcdQR",
-        "abc abcdefg",
-        ["abcd", "abcdef", "abcd##"],
-    ),
-    (
-        "w1XY ! c3",
-        0,
-        "abcd aXYd aXY aQR",
-        "ab aXYdQ ZXY",
-        ["abcd", "aXY", "a##"],
-    ),
-    (
-        "w4ef ! s",
-        0,
-        "abcd abcde abcdef abcdQR",
-        "abc abcdefg",
-        ["abcd", "abcdef", "abcd##"],
-    ),
-    (
-        "w4ef s ! w0Z",
-        0,
-        "abcdef Zbcdef Qbcdef",
-        "abcd ZQcdef",
-        ["abcdef", "Zbcdef", "#bcdef"],
-    ),
+    Row {
+        calls: "w1XY",
+        fails: 99,
+        may: "abcd aXYd aQRd aXcd",
+        must_not: "abc abcde ZXYd aXYZ -",
+        picks: ["abcd", "aXYd", "a##d"],
+    },
+    Row {
+        calls: "w4ef",
+        fails: 99,
+        may: "abcd abcde abcdef abcdQ abcdQR",
+        must_not: "abc abcdefg abcQef",
+        picks: ["abcd", "abcdef", "abcd##"],
+    },
+    Row {
+        calls: "w3XYZ",
+        fails: 99,
+        may: "abcd abcX abcQ abcQR abcXYZ",
+        must_not: "abc abQXYZ abcXYZQ",
+        picks: ["abcd", "abcXYZ", "abc###"],
+    },
+    Row {
+        calls: "w0X w3Z",
+        fails: 99,
+        may: "abcd XbcZ QbcR XbcR",
+        must_not: "XQcZ XbQZ Xbc XbcZQ",
+        picks: ["abcd", "XbcZ", "#bc#"],
+    },
+    Row {
+        calls: "w0XY w1Z",
+        fails: 99,
+        may: "XZcd QRcd abcd",
+        must_not: "XZQd XZc",
+        picks: ["abcd", "XZcd", "##cd"],
+    },
+    Row {
+        calls: "w4",
+        fails: 99,
+        may: "abcd",
+        must_not: "abc abcQ abcdQ",
+        picks: ["abcd", "abcd", "abcd"],
+    },
+    Row {
+        calls: "c2",
+        fails: 99,
+        may: "ab abc abcd",
+        must_not: "a abQ abcQ abcde",
+        picks: ["abcd", "ab", "ab"],
+    },
+    Row {
+        calls: "c3 c1",
+        fails: 99,
+        may: "a ab abc abcd",
+        must_not: "- Q aQ abcde",
+        picks: ["abcd", "a", "a"],
+    },
+    Row {
+        calls: "c0",
+        fails: 99,
+        may: "- a ab abc abcd",
+        must_not: "Q abcdQ",
+        picks: ["abcd", "-", "-"],
+    },
+    Row {
+        calls: "c2 w0X",
+        fails: 99,
+        may: "Xb Qb abcd XbQR QbQ",
+        must_not: "X XQ XbQRS",
+        picks: ["abcd", "Xb", "#b"],
+    },
+    Row {
+        calls: "c2 w2XYZ",
+        fails: 99,
+        may: "ab abQ abQRS abcd abXYZ",
+        must_not: "a aQXYZ abXYZQ",
+        picks: ["abcd", "abXYZ", "ab###"],
+    },
+    Row {
+        calls: "c2 w2",
+        fails: 99,
+        may: "ab abQ abQR abcd",
+        must_not: "a aQ abQRS",
+        picks: ["abcd", "ab", "ab"],
+    },
+    Row {
+        calls: "c3 w3XY c1",
+        fails: 99,
+        may: "a ab abc abcQ abcQR",
+        must_not: "- aQ aQcXY abcQRS",
+        picks: ["abcd", "a", "a"],
+    },
+    Row {
+        calls: "w4ef c5",
+        fails: 99,
+        may: "abcd abcde abcdQ abcdQR",
+        must_not: "abc abcdefg abcQe",
+        picks: ["abcd", "abcde", "abcd#"],
+    },
+    Row {
+        calls: "w4ef c2",
+        fails: 99,
+        may: "ab abc abcd abcdef abcdQR",
+        must_not: "a abQ abcQef abcdefg",
+        picks: ["abcd", "ab", "ab"],
+    },
+    Row {
+        calls: "c2 s",
+        fails: 99,
+        may: "ab",
+        must_not: "a abc abcd abQ",
+        picks: ["ab", "ab", "ab"],
+    },
+    Row {
+        calls: "w4ef s",
+        fails: 99,
+        may: "abcdef",
+        must_not: "abcd abcde abcdeQ abcdefg",
+        picks: ["abcdef", "abcdef", "abcdef"],
+    },
+    Row {
+        calls: "w1XY s w0Z",
+        fails: 99,
+        may: "ZXYd aXYd QXYd",
+        must_not: "abcd ZbYd ZXY",
+        picks: ["aXYd", "ZXYd", "#XYd"],
+    },
+    Row {
+        calls: "c0 s w0hi",
+        fails: 99,
+        may: "- Q h hi QR",
+        must_not: "hiQ",
+        picks: ["-", "hi", "##"],
+    },
+    Row {
+        calls: "w4ef o",
+        fails: 99,
+        may: "abcd abcde abcdef abcdQ",
+        must_not: "abc abcdefg",
+        picks: ["abcd", "abcdef", "abcd##"],
+    },
+    Row {
+        calls: "w4ef",
+        fails: 6,
+        may: "abcd",
+        must_not: "abcde abcdef",
+        picks: ["abcd", "abcd", "abcd"],
+    },
+    Row {
+        calls: "w4ef s",
+        fails: 8,
+        may: "abcd abcde abcdef abcdQR",
+        must_not: "abc abcdefg",
+        picks: ["abcd", "abcdef", "abcd##"],
+    },
+    Row {
+        calls: "c2",
+        fails: 6,
+        may: "abcd",
+        must_not: "ab abc",
+        picks: ["abcd", "abcd", "abcd"],
+    },
+    Row {
+        calls: "! w4ef",
+        fails: 99,
+        may: "abcd abcde abcdef abcdQR",
+        must_not: "abc abcdefg",
+        picks: ["abcd", "abcdef", "abcd##"],
+    },
+    Row {
+        calls: "w1XY ! c3",
+        fails: 99,
+        may: "abcd aXYd aXY aQR",
+        must_not: "ab aXYdQ ZXY",
+        picks: ["abcd", "aXY", "a##"],
+    },
+    Row {
+        calls: "w4ef ! s",
+        fails: 99,
+        may: "abcd abcde abcdef abcdQR",
+        must_not: "abc abcdefg",
+        picks: ["abcd", "abcdef", "abcd##"],
+    },
+    Row {
+        calls: "w4ef s ! w0Z",
+        fails: 99,
+        may: "abcdef Zbcdef Qbcdef",
+        must_not: "abcd ZQcdef",
+        picks: ["abcdef", "Zbcdef", "#bcdef"],
+    },
 ];
 
 /// The bytes that a word stands for.
@@ -207,7 +245,7 @@ fn put_other<V: Volume>(volume: &mut V) -> Result<(), Failed> {
 
 /// Writes and syncs both files.
 fn begin<V: Volume>(volume: &mut V) -> Result<(), Failed> {
-    let _ = volume.root("folder");
+    volume.root("folder")?;
     volume.write_at("a", 0, b"abcd")?;
     volume.sync("a")?;
     put_other(volume)
@@ -263,7 +301,7 @@ fn check_pick(
     pick: Pick,
     wanted: &str,
 ) -> Result<(), Fail> {
-    let mut volume = run(alloc, row.0, row.1, pick)?;
+    let mut volume = run(alloc, row.calls, row.fails, pick)?;
     volume.stop_at(volume.calls(), pick);
     assert!(rt; volume.sync("a").is_err());
     assert!(rt; volume.length("a").is_err());
@@ -273,12 +311,12 @@ fn check_pick(
 }
 
 fn check_row(rt: &impl Abort, alloc: Global, row: &Row) -> Result<(), Fail> {
-    let volume = run(alloc, row.0, row.1, Pick::New)?;
-    check_words(rt, alloc, &volume, row.2, true)?;
-    check_words(rt, alloc, &volume, row.3, false)?;
-    check_pick(rt, alloc, row, Pick::Old, row.4[0])?;
-    check_pick(rt, alloc, row, Pick::New, row.4[1])?;
-    check_pick(rt, alloc, row, Pick::Torn(b'#'), row.4[2])
+    let volume = run(alloc, row.calls, row.fails, Pick::New)?;
+    check_words(rt, alloc, &volume, row.may, true)?;
+    check_words(rt, alloc, &volume, row.must_not, false)?;
+    check_pick(rt, alloc, row, Pick::Old, row.picks[0])?;
+    check_pick(rt, alloc, row, Pick::New, row.picks[1])?;
+    check_pick(rt, alloc, row, Pick::Torn(b'#'), row.picks[2])
 }
 
 fn check_rows(rt: &impl Abort, alloc: Global, rows: &[Row]) -> Result<(), Fail> {
