@@ -1,34 +1,32 @@
 -- Patches that can be applied one after the other can be merged.
-use Rattle.std.proofs.Common.{◌≡◌, ℕ, zero, suc, ◌-◌, inl, inr, Bool, true, false, List, [], ◌∷◌, length, map, refl, ◌∙◌, ap, subst}
-use Rattle.std.specs.Prelude.{slice_index}
-use Rattle.std.specs.Char.Utf16.{is_high_surrogate, is_low_surrogate}
+use Rattle.std.proofs.Common.{arith, ◌≡◌, ℕ, ◌-◌, inl, inr, List, length, map, refl, ◌∙◌, ap, subst}
+use Rattle.std.specs.Prelude.{Some, slice_get, slice_index}
+use Rattle.std.specs.Option.{option_map}
 use Rattle.std.proofs.lemmas.List.{length-map}
+use Rattle.std.proofs.lemmas.Option.{slice_get-map, slice_get_within, get_or_from_slice_get}
 use Rattle.pad_text.specs.Text.{CutsPair}
 use Rattle.pad_patch.specs.declared.patch.Patch.{Patch}
 use Rattle.pad_patch.specs.Piece.{end_of, text_after}
 use Rattle.pad_patch.specs.Misfit.{EndsAfter, CanApply}
 use Rattle.pad_patch.proofs.Copies.{length-text_after}
-use Rattle.pad_merge.specs.Source.{Source, kept_at, new_unit, kept_from, sources_of, unit_of}
-use Rattle.pad_merge.specs.Merge.{new_or_letter, CutsInserted, CanMerge}
+use Rattle.pad_merge.specs.Source.{Source, new_unit, kept_from, sources_of, unit_of}
+use Rattle.pad_merge.specs.Merge.{CutsNewPair, CutsInserted, CanMerge}
 use Rattle.pad_merge.proofs.Sources.{map-sources_after, map-kept_all}
 
--- a unit that no letter is stands in the text too
-same_unit : (test : ℕ → Bool) (text : List ℕ) (sources : List Source) (index : ℕ) → test 0x61 ≡ false → test (slice_index (map new_or_letter sources) index) ≡ true
-    → slice_index (map (unit_of text) sources) index ≡ slice_index (map new_or_letter sources) index
-same_unit test text [] index never is = refl
-same_unit test text (kept_at at ∷ sources) zero never is = cc
-same_unit test text (new_unit unit ∷ sources) zero never is = refl
-same_unit test text (kept_at at ∷ sources) (suc index) never is = same_unit test text sources index never is
-same_unit test text (new_unit unit ∷ sources) (suc index) never is = same_unit test text sources index never is
+-- a new unit stands in the text too
+new_stands : (text : List ℕ) (sources : List Source) (index unit : ℕ) → slice_get sources index ≡ Some (new_unit unit) → slice_index (map (unit_of text) sources) index ≡ unit
+new_stands text sources index unit is =
+    get_or_from_slice_get (map (unit_of text) sources) index unit 0 (slice_get-map (unit_of text) sources index ∙ ap (option_map (unit_of text)) is)
 
 -- a pair of new units is a pair of the text
-cut_of_inserted : (text : List ℕ) (sources : List Source) (place : ℕ) → CutsPair (map new_or_letter sources) place → CutsPair (map (unit_of text) sources) place
+cut_of_inserted : (text : List ℕ) (sources : List Source) (place : ℕ) → CutsNewPair sources place → CutsPair (map (unit_of text) sources) place
 cut_of_inserted text sources place cut =
-    let high = same_unit is_high_surrogate text sources (place - 1) refl cut.high in
-    let low = same_unit is_low_surrogate text sources place refl cut.low in
+    let before : place - 1 ≡ cut.before = omega (arith, cut.follows) in
+    let high = ap (slice_index (map (unit_of text) sources)) before ∙ new_stands text sources cut.before cut.first cut.first_stands in
+    let low = new_stands text sources place cut.second cut.second_stands in
     record {
-      after_start = cut.after_start;
-      before_end = rw length-map (rw length-map at cut.before_end);
+      after_start = omega (arith, cut.follows);
+      before_end = omega (arith, length-map sources (unit_of text), slice_get_within sources place (new_unit cut.second) cut.second_stands);
       high = rw high cut.high;
       low = rw low cut.low;
     }

@@ -1,7 +1,7 @@
 -- What the merge of two patches is, from what is asked of them.
-use Rattle.std.proofs.Common.{◌≡◌, ℕ, zero, suc, ◌+◌, ◌-◌, ◌<◌, inl, inr, List, [], ◌∷◌, length, map, refl, sym, ◌∙◌, ap, subst, arith, ◌^◌, true, false}
-use Rattle.std.specs.Prelude.{All, slice_index}
-use Rattle.std.specs.Char.Utf16.{utf16_chars, is_high_surrogate}
+use Rattle.std.proofs.Common.{◌≡◌, ℕ, zero, suc, ◌+◌, ◌-◌, ◌<◌, inl, inr, List, [], ◌∷◌, length, map, refl, sym, ◌∙◌, ap, subst, arith, ◌^◌, Bool, true, false}
+use Rattle.std.specs.Prelude.{All, Some, slice_get, slice_index}
+use Rattle.std.specs.Char.Utf16.{utf16_chars, is_high_surrogate, is_low_surrogate}
 use Rattle.std.proofs.lemmas.List.{length-map}
 use Rattle.pad_text.specs.declared.name.Name.{Name}
 use Rattle.pad_text.specs.Text.{IsText, CutsPair}
@@ -12,8 +12,9 @@ use Rattle.pad_patch.specs.Piece.{end_of, length_after, text_after}
 use Rattle.pad_patch.specs.Misfit.{EndsAfter}
 use Rattle.pad_patch.proofs.Laid.{IsLaid, laid, inside_laid}
 use Rattle.pad_patch.proofs.Copies.{copy_from, length-text_after, IsText-text_after}
-use Rattle.pad_merge.specs.Source.{Source, kept_from, sources_after, sources_of, unit_of, IsAscending}
-use Rattle.pad_merge.specs.Merge.{merged, operations_between, new_or_letter, CanMerge, IsNormal}
+use Rattle.pad_merge.specs.Source.{Source, kept_at, new_unit, kept_from, sources_after, sources_of, unit_of, IsAscending}
+use Rattle.pad_merge.specs.CopiedUnit.{new_or_letter}
+use Rattle.pad_merge.specs.Merge.{merged, operations_between, CutsNewPair, CanMerge, IsNormal}
 use Rattle.pad_merge.proofs.Sources.{map-sources_after, length-kept_from, map-kept_all, ascending_kept, ascending_after}
 use Rattle.pad_merge.proofs.Reading.{copy_between, laid_between, spaced_between, normal_spaced}
 
@@ -109,6 +110,30 @@ first_text patch size inserts =
     (IsText-text_after patch (map new_or_letter (kept_from 0 size)) (letters_text 0 size) inserts
     (λ index (operation, is, cut). elim cut [ inl start ↦ letters_whole size operation.offset start | inr end ↦ letters_whole size (end_of operation) end ]))
 
+-- a unit of a pair is no letter, so it is new
+new_at : (test : ℕ → Bool) (sources : List Source) (index : ℕ) → test 0x61 ≡ false → test 0 ≡ false → test (slice_index (map new_or_letter sources) index) ≡ true
+    → (unit : ℕ) × (slice_get sources index ≡ Some (new_unit unit)) × (test unit ≡ true)
+new_at test [] index letter past is = cc
+new_at test (kept_at place ∷ sources) zero letter past is = cc
+new_at test (new_unit unit ∷ sources) zero letter past is = (unit, refl, is)
+new_at test (kept_at place ∷ sources) (suc index) letter past is = new_at test sources index letter past is
+new_at test (new_unit unit ∷ sources) (suc index) letter past is = new_at test sources index letter past is
+
+new_pair : (sources : List Source) (place : ℕ) → CutsPair (map new_or_letter sources) place → CutsNewPair sources place
+new_pair sources place cut =
+    let high = new_at is_high_surrogate sources (place - 1) refl refl cut.high in
+    let low = new_at is_low_surrogate sources place refl refl cut.low in
+    record {
+      before = place - 1;
+      follows = omega (arith, cut.after_start);
+      first = high.0;
+      second = low.0;
+      first_stands = high.1;
+      second_stands = low.1;
+      high = high.2;
+      low = low.2;
+    }
+
 -- and so are those after both
 pub both_text : (first second : Patch) (size : ℕ) → CanMerge first second size
     → All (λ (operation : Operation). IsText operation.insert) first.ops → All (λ (operation : Operation). IsText operation.insert) second.ops
@@ -117,7 +142,7 @@ both_text first second size can first_inserts second_inserts =
     let units = map new_or_letter (sources_of first size) in
     subst IsText (sym (map-sources_after new_or_letter second (sources_of first size) (λ unit. refl)))
     (IsText-text_after second units (first_text first size first_inserts) second_inserts
-    (λ index (operation, is, cut). elim cut [ inl start ↦ can.starts_whole index operation is start | inr end ↦ can.ends_whole index operation is end ]))
+    (λ index (operation, is, cut). elim cut [ inl start ↦ can.starts_whole index operation is (new_pair (sources_of first size) operation.offset start) | inr end ↦ can.ends_whole index operation is (new_pair (sources_of first size) (end_of operation) end) ]))
 
 -- the merge is in normal form
 pub IsNormal-merged : (first second : Patch) (size : ℕ) → CanMerge first second size → IsNormal (merged first second size)

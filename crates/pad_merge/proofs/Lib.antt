@@ -7,3 +7,4 @@ pub mod Applied
 pub mod TakenBack
 pub mod Named
 pub mod Places
+pub mod Pairs

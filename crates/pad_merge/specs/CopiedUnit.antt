@@ -22,3 +22,8 @@ origin_of (New unit origin) = Some origin
 abbrev pub origin_in : Turn → ℕ → Origin
 origin_in Earlier place = First place
 origin_in Later place = Second place
+
+-- a new unit as it is, and a letter for a kept one, which is in no pair
+abbrev pub new_or_letter : Source → ℕ
+new_or_letter (kept_at place) = 0x61
+new_or_letter (new_unit unit) = unit

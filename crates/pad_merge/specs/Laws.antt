@@ -17,6 +17,11 @@ abbrev pub AppliedPatchesMerge : Type 0
 AppliedPatchesMerge =
     (first second : Patch) (text : List ℕ) → CanApply first text → CanApply second (text_after first text) → CanMerge first second (length text)
 
+-- and so can their merge be applied to it
+abbrev pub MergedApplies : Type 0
+MergedApplies =
+    (first second : Patch) (text : List ℕ) → CanApply first text → CanApply second (text_after first text) → CanApply (merged first second (length text)) text
+
 -- a patch without operations adds nothing in front of one in normal form
 abbrev pub EmptyFirst : Type 0
 EmptyFirst =

@@ -1,6 +1,6 @@
 -- One patch that does what one patch and then another one do.
-use Rattle.std.specs.Prelude.{ℕ, suc, ◌+◌, ◌-◌, ◌<◌, ◌⊎◌, ◌==◌, List, [], ◌∷◌, ◌++◌, length, map, if◌then◌else◌}
-use Rattle.pad_text.specs.Text.{CutsPair}
+use Rattle.std.specs.Prelude.{◌≡◌, ℕ, suc, ◌+◌, ◌-◌, ◌<◌, ◌⊎◌, ◌==◌, Some, IsTrue, List, [], ◌∷◌, ◌++◌, length, slice_get, if◌then◌else◌}
+use Rattle.std.specs.Char.Utf16.{is_high_surrogate, is_low_surrogate}
 use Rattle.pad_patch.specs.declared.operation.Operation.{Operation}
 use Rattle.pad_patch.specs.declared.patch.Patch.{Patch}
 use Rattle.pad_patch.specs.Piece.{end_of, length_after}
@@ -28,14 +28,20 @@ pub record IsNormal (patch : Patch) : Type 0 where
   pub untouched : (index : ℕ) (earlier later : Operation) → IsOperation patch index earlier → IsOperation patch (index + 1) later → end_of earlier < later.offset
   pub needed : (index : ℕ) (operation : Operation) → IsOperation patch index operation → (0 < operation.remove) ⊎ (0 < length operation.insert)
 
--- a new unit as it is, and a letter for a kept one
-abbrev pub new_or_letter : Source → ℕ
-new_or_letter (kept_at place) = 0x61
-new_or_letter (new_unit unit) = unit
+-- the place stands between two new units that are a pair
+pub record CutsNewPair (sources : List Source) (place : ℕ) : Type 0 where
+  pub before : ℕ
+  pub follows : place ≡ before + 1
+  pub first : ℕ
+  pub second : ℕ
+  pub first_stands : slice_get sources before ≡ Some (new_unit first)
+  pub second_stands : slice_get sources place ≡ Some (new_unit second)
+  pub high : IsTrue (is_high_surrogate first)
+  pub low : IsTrue (is_low_surrogate second)
 
 -- the place stands between the two units of a pair that the patch inserts, as they stand after it
 abbrev pub CutsInserted : Patch → ℕ → ℕ → Type 0
-CutsInserted patch size place = CutsPair (map new_or_letter (sources_of patch size)) place
+CutsInserted patch size place = CutsNewPair (sources_of patch size) place
 
 -- two patches can be merged: the first one on a text of `size` units, and the second one on the text after it
 pub record CanMerge (first second : Patch) (size : ℕ) : Type 0 where

@@ -1,10 +1,15 @@
 //! Laws over the definitions, each proved once.
-ghost use Rattle.pad_merge.specs.Laws.{AppliedPatchesMerge, EmptyFirst, EmptySecond, InsertionsTakenBack, NormalIsOrdered};
+ghost use Rattle.pad_merge.specs.Laws.{AppliedPatchesMerge, MergedApplies, EmptyFirst, EmptySecond, InsertionsTakenBack, NormalIsOrdered};
 ghost use Rattle.pad_merge.specs.Laws.{OneOriginEach, OriginsNameUnits, NoOriginTwice, FirstPlacesRise, SecondStandsWhole, EachOfSecondStands};
 
 /// Patches that can be applied to a text one after the other can be merged.
 pub fn applied_patches_merge()
     ensures { AppliedPatchesMerge }
+{}
+
+/// The merge of two patches can be applied where they can be applied one after the other.
+pub fn merged_applies()
+    ensures { MergedApplies }
 {}
 
 /// A patch without operations adds nothing in front of one in normal form.

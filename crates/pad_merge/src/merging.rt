@@ -5,8 +5,8 @@ ghost use Rattle.pad_patch.specs.Piece.{text_after};
 ghost use Rattle.pad_patch.specs.Misfit.{Overlaps, EndsAfter};
 ghost use Rattle.pad_merge.specs.Source.{new_unit, kept_from, sources_of, sources_after, IsAscending};
 ghost use Rattle.pad_merge.specs.Origin.{numbered, origins_after, origins};
-ghost use Rattle.pad_merge.specs.CopiedUnit.{source_of, origin_of, origin_in};
-ghost use Rattle.pad_merge.specs.Merge.{merged, CanMerge, IsNormal, operations_between, new_or_letter};
+ghost use Rattle.pad_merge.specs.CopiedUnit.{source_of, origin_of, origin_in, new_or_letter};
+ghost use Rattle.pad_merge.specs.Merge.{merged, CanMerge, IsNormal, operations_between};
 ghost use Rattle.pad_merge.specs.declared.origin.Origin.TheVariants.{First, Second};
 
 use crate::copied_unit::CopiedUnit;

@@ -1,9 +1,8 @@
 use Rattle.std.proofs.Common.{◌+◌, ◌++◌, map, drop, sym, ◌∙◌, ap, subst, add-one}
 use Rattle.pad_text.specs.Text.{IsText}
-use Rattle.pad_merge.specs.Merge.{new_or_letter}
 use Rattle.pad_merge.specs.Source.{IsAscending}
 use Rattle.pad_merge.specs.declared.copied_unit.CopiedUnit.TheVariants.{Kept, New}
-use Rattle.pad_merge.specs.CopiedUnit.{source_of}
+use Rattle.pad_merge.specs.CopiedUnit.{source_of, new_or_letter}
 use Rattle.pad_merge.proofs.Sources.{drop-read}
 use Rattle.pad_merge.proofs.Reading.{kept_next, read_kept, read_new, text_new}
 use Rattle.pad_merge.proofs.merging.patch_of.Goals as goal
