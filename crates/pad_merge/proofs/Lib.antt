@@ -8,3 +8,4 @@ pub mod TakenBack
 pub mod Named
 pub mod Places
 pub mod Pairs
+pub mod Fixed

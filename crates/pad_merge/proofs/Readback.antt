@@ -170,7 +170,7 @@ spaced_normal patch normal =
     normal.needed
 
 -- a patch in normal form is read back off its sources
-read_normal : (patch : Patch) (size : ℕ) → IsNormal patch → ((index : ℕ) → ¬ (EndsAfter patch size index)) → operations_between 0 [] size (sources_of patch size) ≡ patch.ops
+pub read_normal : (patch : Patch) (size : ℕ) → IsNormal patch → ((index : ℕ) → ¬ (EndsAfter patch size index)) → operations_between 0 [] size (sources_of patch size) ≡ patch.ops
 read_normal patch size normal inside =
     ap (λ n. operations_between 0 [] size (flat_map (sources_of_piece (kept_from 0 size)) (pieces_from 0 n patch.ops))) (length-kept_from 0 size)
     ∙ read_all size patch.ops (spaced_normal patch normal) (inside_of patch size inside)

@@ -9,6 +9,7 @@ use Rattle.pad_patch.specs.Misfit.{IsOperation, Overlaps, EndsAfter, CanApply}
 use Rattle.pad_patch.specs.Inverse.{inverse}
 use Rattle.pad_merge.specs.declared.origin.Origin.{Origin}
 use Rattle.pad_merge.specs.declared.origin.Origin.TheVariants.{Second}
+use Rattle.pad_merge.specs.Source.{sources_of, sources_after}
 use Rattle.pad_merge.specs.Origin.{origins, named_unit, first_place, second_place}
 use Rattle.pad_merge.specs.Merge.{merged, CanMerge, IsNormal}
 
@@ -21,6 +22,17 @@ AppliedPatchesMerge =
 abbrev pub MergedApplies : Type 0
 MergedApplies =
     (first second : Patch) (text : List ℕ) → CanApply first text → CanApply second (text_after first text) → CanApply (merged first second (length text)) text
+
+-- the units after a merge have the sources of the units after both patches in turn
+abbrev pub MergedHasSources : Type 0
+MergedHasSources =
+    (first second : Patch) (size : ℕ) → CanMerge first second size → sources_of (merged first second size) size ≡ sources_after second (sources_of first size)
+
+-- and no other patch in normal form has them: it is fixed by the sources of the units after it
+abbrev pub SourcesFixNormal : Type 0
+SourcesFixNormal =
+    (first second : Patch) (size : ℕ) → IsNormal first → ((index : ℕ) → ¬ (EndsAfter first size index)) → IsNormal second → ((index : ℕ) → ¬ (EndsAfter second size index))
+    → sources_of first size ≡ sources_of second size → first.ops ≡ second.ops
 
 -- a patch without operations adds nothing in front of one in normal form
 abbrev pub EmptyFirst : Type 0

@@ -1,5 +1,5 @@
 //! Laws over the definitions, each proved once.
-ghost use Rattle.pad_merge.specs.Laws.{AppliedPatchesMerge, MergedApplies, EmptyFirst, EmptySecond, InsertionsTakenBack, NormalIsOrdered};
+ghost use Rattle.pad_merge.specs.Laws.{AppliedPatchesMerge, MergedApplies, MergedHasSources, SourcesFixNormal, EmptyFirst, EmptySecond, InsertionsTakenBack, NormalIsOrdered};
 ghost use Rattle.pad_merge.specs.Laws.{OneOriginEach, OriginsNameUnits, NoOriginTwice, FirstPlacesRise, SecondStandsWhole, EachOfSecondStands};
 
 /// Patches that can be applied to a text one after the other can be merged.
@@ -10,6 +10,16 @@ pub fn applied_patches_merge()
 /// The merge of two patches can be applied where they can be applied one after the other.
 pub fn merged_applies()
     ensures { MergedApplies }
+{}
+
+/// The units after a merge come from where those after both patches in turn come from.
+pub fn merged_has_sources()
+    ensures { MergedHasSources }
+{}
+
+/// A patch in normal form is fixed by where the units after it come from.
+pub fn sources_fix_normal()
+    ensures { SourcesFixNormal }
 {}
 
 /// A patch without operations adds nothing in front of one in normal form.
