@@ -1,0 +1,10 @@
+use Rattle.std.proofs.Common.{refl, ◌∙◌, sym}
+use Rattle.std.proofs.lemmas.Bool.{not-false}
+use Rattle.std.proofs.lemmas.Slice.Eq.{bytes_eq-Decides}
+use Rattle.gated_log.proofs.Opening.{short_found}
+use Rattle.gated_log.proofs.loading.found_short.Goals as goal
+
+pub returns : goal.returns
+returns c = λ name disk rests.
+    short_found name c.args.bytes.now disk _ c.requires
+    (λ same. (bytes_eq-Decides c.args.bytes.now c.as_slice.result.now).0 (not-false _ (sym c.ne.ensures ∙ same)) ∙ c.as_slice.ensures) refl refl refl rests

@@ -1,0 +1,12 @@
+-- The bytes that an append writes behind the last gate.
+use Rattle.std.specs.Prelude.{◌≡◌, ℕ, ◌-◌, ◌≤◌, List, [], ◌∷◌, ◌++◌, length, take, drop}
+use Rattle.gated_log.specs.File.{record_of}
+
+-- the payload in a frame: all between the length and the closed gate
+abbrev pub payload_of : List ℕ → List ℕ
+payload_of bytes = take (length bytes - 5) (drop 4 bytes)
+
+-- a payload's record and a closed gate
+pub record IsFrame (bytes payload : List ℕ) : Type 0 where
+  pub bytes_are : bytes ≡ record_of payload ++ 0 ∷ []
+  pub small : length payload ≤ 2097184

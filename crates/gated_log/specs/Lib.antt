@@ -1,0 +1,11 @@
+pub mod Damages
+pub mod Entries
+pub mod File
+pub mod Found
+pub mod Frame
+pub mod Holds
+pub mod Laws
+pub mod Ledger
+pub mod Log
+pub mod Opens
+pub mod Walked
