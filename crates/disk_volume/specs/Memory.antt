@@ -1,5 +1,5 @@
 -- A volume in memory.
-use Rattle.std.specs.Prelude.{◌≡◌, ◌⊎◌, ℕ, ◌+◌, ◌-◌, ◌^◌, ◌==◌, min, Bool, false, ◌||◌, List, [], ◌∷◌, ◌++◌, MatchBool, MatchResult, Result, Ok, Err, IsOk, IsErr, IsTrue, if◌then◌else◌}
+use Rattle.std.specs.Prelude.{◌≡◌, ◌⊎◌, ℕ, ◌==◌, Bool, false, ◌||◌, List, [], ◌∷◌, ◌++◌, MatchBool, MatchResult, Result, Ok, Err, IsOk, IsErr, IsTrue, if◌then◌else◌}
 use Rattle.std.specs.List.{list_any}
 use Rattle.pad_edge.specs.Count.{counted}
 use Rattle.disk_volume.specs.Clock.{Ticked}

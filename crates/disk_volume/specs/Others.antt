@@ -1,8 +1,8 @@
 -- Lemmas: what acts on some files, and syncs of them, leave of a disk.
-use Rattle.std.proofs.Common.{◌≡◌, ◌∙◌, Bool, true, false, ◌||◌, List, ℕ, inl, inr, refl, sym, ap, subst, bytes_eq, if◌then◌else◌}
+use Rattle.std.proofs.Common.{◌≡◌, ◌∙◌, Bool, true, false, List, ℕ, inl, inr, refl, sym, ap, subst, bytes_eq, if◌then◌else◌}
 use Rattle.std.proofs.lemmas.Slice.Eq.{bytes_eq-Decides}
 use Rattle.disk_volume.specs.Disk.{Act, Disk, did, File, at_rest, after, synced, file_at, reads, MayLeave, IsImage, AtRest}
-use Rattle.disk_volume.specs.Moments.{moment, LeftSince, Grew, still, more, OnlySyncs, no_sync, one_sync, LeftBefore, EachSince}
+use Rattle.disk_volume.specs.Moments.{Grew, still, more, OnlySyncs, no_sync, one_sync, LeftBefore, EachSince}
 use Rattle.disk_volume.specs.Since.{now_alone}
 
 -- some of these acts was on this file
