@@ -1,9 +1,8 @@
 -- An input ends in one way.
-use Rattle.std.proofs.Common.{◌≡◌, ◌≢◌, ℕ, ◌+◌, ◌≤◌, ◌<◌, ◌⊎◌, inl, inr, List, [], ◌∷◌, ◌++◌, length, Option, None, Some, is_none, count_by, All, Contains, refl, sym, ap, subst, ◌∙◌, arith}
+use Rattle.std.proofs.Common.{◌≡◌, ℕ, ◌⊎◌, inl, inr, List, [], ◌∷◌, ◌++◌, Option, None, Some, is_none, count_by, Contains, refl, sym, ap, subst, ◌∙◌, arith}
 use Rattle.std.proofs.lemmas.List.Elements.{All-contains, Contains-append_left, Contains-append_right}
 use Rattle.std.specs.List.{AllZip, filter_map}
 use Rattle.pad_text.specs.declared.name.Name.{Name}
-use Rattle.pad_message.specs.declared.kind.Kind.{Kind}
 use Rattle.pad_message.specs.declared.kind.Kind.TheVariants as kind
 use Rattle.pad_message.specs.declared.message.Message.{Message}
 use Rattle.pad_message.specs.Message.{name_of}
@@ -11,8 +10,8 @@ use Rattle.pad_message.proofs.OneMessage.{spells_one}
 use Rattle.pad_model.specs.Count.{IsKnown}
 use Rattle.pad_model.proofs.Members.{contains_head, contains_cases}
 use Rattle.pad_top.specs.Line.{lines_of}
-use Rattle.pad_top.specs.Received.{first_base, most_names, LineSpells, ReadsAs, IsReceived, IsAccepted, IsTaken, IsOneTooMany, Reaches}
-use Rattle.pad_top.specs.Replay.{IsReplayed, IsPastLimit, IsUnbuilt, IsUnstopped}
+use Rattle.pad_top.specs.Received.{first_base, LineSpells, ReadsAs, IsReceived, IsAccepted, IsTaken, IsOneTooMany, Reaches}
+use Rattle.pad_top.specs.Replay.{IsReplayed, IsPastLimit, IsUnbuilt}
 use Rattle.pad_top.specs.Laws.{ReceivedOnce, EndsOnce}
 
 -- a line reads as one outcome

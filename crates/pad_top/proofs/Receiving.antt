@@ -1,12 +1,11 @@
 -- The names of the messages received, message by message.
-use Rattle.std.proofs.Common.{◌≡◌, ◌≢◌, ℕ, ◌+◌, ◌≤◌, ◌⊎◌, inl, inr, Bool, true, false, true≢false, nat_eq, Option, None, Some, not, is_some, slice_get, List, [], ◌∷◌, ◌++◌, length, All, Contains, refl, sym, ap, subst, ◌∙◌, arith}
+use Rattle.std.proofs.Common.{◌≡◌, ◌≢◌, ℕ, ◌≤◌, ◌⊎◌, inl, inr, Bool, true, false, true≢false, nat_eq, Option, None, Some, not, is_some, List, [], ◌∷◌, ◌++◌, length, Contains, sym, ap, subst, ◌∙◌, arith}
 use Rattle.std.specs.Cmp.Lexicographic.{pointwise, bytes_decides}
 use Rattle.std.proofs.lemmas.Option.{get_or_from_slice_get, slice_get_within}
-use Rattle.std.proofs.lemmas.List.Elements.{All-push, Contains-append_left, Contains-push, Contains-push_cases}
+use Rattle.std.proofs.lemmas.List.Elements.{All-push, Contains-push_cases}
 use Rattle.pad_text.specs.declared.name.Name.{Name}
 use Rattle.pad_text.specs.Text.{IsText}
 use Rattle.pad_text.proofs.Texts.{kept_by_cuts}
-use Rattle.pad_message.specs.declared.kind.Kind.{Kind}
 use Rattle.pad_message.specs.declared.kind.Kind.TheVariants as kind
 use Rattle.pad_message.specs.declared.message.Message.{Message}
 use Rattle.pad_message.specs.Message.{name_of}
@@ -15,7 +14,7 @@ use Rattle.pad_model.specs.Path.{NamesDiffer}
 use Rattle.pad_model.specs.Report.{IsReport}
 use Rattle.pad_model.specs.Count.{NoRepeat, IsNumberOf, IsKnown}
 use Rattle.pad_model.specs.Messages.{IsPlaceOf}
-use Rattle.pad_model.proofs.Members.{contains_head, contains_more, contains_cases, contains_none, distinct_short}
+use Rattle.pad_model.proofs.Members.{contains_head, contains_more, contains_none, distinct_short}
 use Rattle.pad_top.specs.Received.{first_base, most_names, HasFewNames, IsAccepted, IsOneTooMany}
 use Rattle.pad_top.specs.Progress.{Progress, IsInside, IsFull, HasRoom, TestsRoom}
 

@@ -6,7 +6,7 @@ use Rattle.pad_message.specs.declared.message.Message.{Message}
 use Rattle.pad_top.specs.declared.refused.ReplayRefused.{ReplayRefused}
 use Rattle.pad_top.specs.declared.refused.ReplayRefused.TheVariants as refused
 use Rattle.pad_top.specs.Line.{lines_of}
-use Rattle.pad_top.specs.Received.{LineSpells, ReadsAs, IsReceived, IsAccepted, IsTaken, Reaches, MeetsCheckpoint, MeetsOneTooMany}
+use Rattle.pad_top.specs.Received.{LineSpells, ReadsAs, IsReceived, IsAccepted, Reaches}
 use Rattle.pad_top.specs.Progress.{Progress, Receives, progress_after, IsLineRefusal, IsLinesRefusal}
 
 -- the lines of a text before the rest of it are received

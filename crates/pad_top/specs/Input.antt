@@ -1,5 +1,5 @@
 -- What is read of a source.
-use Rattle.std.specs.Prelude.{◌≡◌, ◌<◌, ⊤, ℕ, ◌^◌, List, length, Option, None, Some}
+use Rattle.std.specs.Prelude.{◌≡◌, ⊤, ℕ, ◌^◌, List, Option, None, Some}
 
 -- the most bytes of input that a run takes
 abbrev pub most_bytes : ℕ

@@ -9,7 +9,7 @@ abbrev pub ReceivedOnce : Type 0
 ReceivedOnce = (lines : List (List ℕ)) (messages other : List Message) (unreadable number : ℕ)
     → IsReceived lines messages unreadable → IsReceived lines other number → (messages ≡ other) × (unreadable ≡ number)
 
--- an input has a report, is past a limit, or is not built for, and never two of these
+-- an input has at most one of these: a report, a limit that it is past, a checkpoint that stops a replay
 pub record EndsOnce : Type 0 where
   pub report : (input output : List ℕ) → IsReplayed input output → IsUnstopped input
   pub limit : (input : List ℕ) → IsPastLimit input → ¬ (IsUnbuilt input)

@@ -1,5 +1,5 @@
 -- The lines of a text, in bytes.
-use Rattle.std.specs.Prelude.{ℕ, List, [], ◌∷◌, ◌++◌, ◌==◌, if◌then◌else◌}
+use Rattle.std.specs.Prelude.{ℕ, List, [], ◌∷◌, ◌==◌, if◌then◌else◌}
 
 -- the byte that ends a line
 abbrev pub newline : ℕ

@@ -1,7 +1,6 @@
 -- How the program that receives lines goes on, line by line.
 use Rattle.std.specs.Prelude.{◌≡◌, ◌≢◌, ⊤, ℕ, ◌+◌, ◌⊎◌, List, [], ◌∷◌, ◌++◌, Bool, Option, None, Some, Contains, MatchBool}
 use Rattle.pad_text.specs.declared.name.Name.{Name}
-use Rattle.pad_message.specs.declared.kind.Kind.{Kind}
 use Rattle.pad_message.specs.declared.kind.Kind.TheVariants as kind
 use Rattle.pad_message.specs.declared.message.Message.{Message}
 use Rattle.pad_message.specs.Message.{name_of}

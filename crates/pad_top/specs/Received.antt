@@ -1,9 +1,8 @@
 -- What is received of the lines of an input.
-use Rattle.std.specs.Prelude.{◌≡◌, ◌≢◌, ⊤, ℕ, ◌+◌, ◌≤◌, ◌^◌, List, [], ◌∷◌, ◌++◌, length, replicate, Option, None, Some, is_none, All, count_by, Contains, ◌↔◌}
+use Rattle.std.specs.Prelude.{◌≡◌, ◌≢◌, ℕ, ◌≤◌, List, [], ◌∷◌, ◌++◌, length, replicate, Option, None, Some, is_none, All, count_by, Contains}
 use Rattle.std.specs.Str.{IsUtf8}
 use Rattle.std.specs.List.{AllZip, filter_map}
 use Rattle.pad_text.specs.declared.name.Name.{Name}
-use Rattle.pad_message.specs.declared.kind.Kind.{Kind}
 use Rattle.pad_message.specs.declared.kind.Kind.TheVariants as kind
 use Rattle.pad_message.specs.declared.message.Message.{Message}
 use Rattle.pad_message.specs.Message.{name_of}

@@ -6,7 +6,7 @@ pub fn lines_are_received_once()
     ensures { ReceivedOnce }
 {}
 
-/// An input has a report, is past a limit, or is not built for, and never two of these.
+/// An input has at most one of these: a report, a limit that it is past, a checkpoint that stops a replay.
 #[tactic(auto, using(crate::proofs::Once::ends_once))]
 pub fn inputs_end_once()
     ensures { EndsOnce }

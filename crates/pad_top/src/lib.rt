@@ -16,3 +16,6 @@ mod words;
 pub use command::run;
 pub use laws::{inputs_end_once, lines_are_received_once};
 pub use status::Status;
+
+#[cfg(test)]
+mod tests;

@@ -111,7 +111,7 @@ impl Received {
         if is_one_too_many(&base, &messages, &name) {
             return Err(ReplayRefused::Limit);
         }
-        messages.push(alloc, message)?;
+        messages.push_named(message, name)?;
         Ok(Received {
             base,
             messages,

@@ -1,5 +1,5 @@
 -- A run that a failed write cut short.
-use Rattle.std.proofs.Common.{◌≡◌, true, false, List, ℕ, Option, IfSome, map, string_bytes, refl, sym, ap, subst, ◌∙◌}
+use Rattle.std.proofs.Common.{◌≡◌, true, false, IfSome, map, string_bytes, refl, sym, subst}
 use Rattle.pad_edge.specs.Count.{Rose}
 use Rattle.pad_top.specs.Replay.{IsReplayed}
 use Rattle.pad_top.specs.Run.{Ends}

@@ -1,8 +1,6 @@
 -- The base inside is the first one.
-use Rattle.std.proofs.Common.{IfOk, string_bytes}
+use Rattle.std.proofs.Common.{string_bytes}
 use Rattle.std.proofs.lemmas.Result.{IfOk-weaker}
-use Rattle.pad_model.specs.Path.{NamesDiffer}
-use Rattle.pad_model.specs.Report.{IsReport}
 use Rattle.pad_top.proofs.Receiving.{report_from_first}
 use Rattle.pad_top.proofs.received.Received.report.Goals as goal
 
