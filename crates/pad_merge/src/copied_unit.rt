@@ -2,7 +2,7 @@ use crate::origin::Origin;
 
 /// One unit of a copy of a text.
 #[derive(Clone, Copy, Debug)]
-pub enum CopiedUnit {
+pub(crate) enum CopiedUnit {
     /// The unit of the text at this place.
     Kept(u32),
     /// This new unit, and where it was inserted.

@@ -8,7 +8,7 @@ use std::alloc::{AllocError, Global};
 
 /// Operations that are read off the sources of a copy, from left to right.
 #[derive(Debug, Drop)]
-pub struct Gaps {
+pub(crate) struct Gaps {
     /// The operations so far.
     pub ops: Vec<Operation>,
     /// The place behind the last kept unit.

@@ -4,7 +4,7 @@ use crate::origin::Origin;
 
 /// One of the two patches of a merge.
 #[derive(Clone, Copy, Debug)]
-pub enum Turn {
+pub(crate) enum Turn {
     /// The patch that is applied first.
     Earlier,
     /// The patch that is applied to the text after the first.
