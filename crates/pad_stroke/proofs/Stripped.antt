@@ -1,0 +1,222 @@
+-- What a work is without the units that another one inserts.
+use Rattle.std.proofs.Common.{◌≡◌, ℕ, zero, suc, ◌+◌, ◌<◌, ◌≤◌, ◌⊎◌, inl, inr, Bool, true, false, cond, List, [], ◌∷◌, ◌++◌, length, take, drop, set, get_or, slice_index_or, refl, sym, ◌∙◌, ap, subst, arith, append_assoc}
+use Rattle.std.specs.Prelude.{◌≢◌, ◌||◌, Some, filter, nat_lt, slice_get}
+use Rattle.std.proofs.lemmas.Bool.{ltb-true, ltb-false}
+use Rattle.std.proofs.lemmas.List.{take_more_set, drop-set-lt, drop_more, nil_from_length, length-append, length-drop}
+use Rattle.std.proofs.lemmas.List.Kept.{AllPairs-filter}
+use Rattle.pad_text.specs.Text.{CutsPair}
+use Rattle.pad_patch.specs.declared.operation.Operation.{Operation}
+use Rattle.pad_patch.specs.Piece.{end_of}
+use Rattle.pad_patch.specs.Misfit.{CanApply}
+use Rattle.pad_stroke.specs.declared.mark.Mark.{Mark}
+use Rattle.pad_stroke.specs.Strip.{stays, staying, insertions, thinned, is_needed, stripped}
+use Rattle.pad_stroke.specs.Work.{Marked, IsWork}
+use Rattle.pad_stroke.proofs.Joints.{IsSpaced}
+use Rattle.pad_stroke.proofs.Normal.{spaced_normal, normal_spaced, ordered_normal}
+
+-- an element and those behind it
+pub next_of : {X : Type 0} (xs : List X) (i : ℕ) (x : X) → i < length xs → x ≡ get_or xs i x → drop i xs ≡ x ∷ drop (i + 1) xs
+next_of xs i x within is = drop_more xs i x within ∙ ap (λ y. y ∷ drop (i + 1) xs) (sym is)
+
+-- one unit more that stays, and is moved to the front
+pub staying_kept : (gone : List Mark) (units : List ℕ) (marks : List Mark) (kept index unit : ℕ) (mark : Mark)
+    → index < length units → index < length marks → kept ≤ index → unit ≡ get_or units index unit → mark ≡ slice_index_or marks index mark → stays gone mark ≡ true
+    → take (kept + 1) (set units kept unit) ++ staying gone (drop (index + 1) (set units kept unit)) (drop (index + 1) marks)
+    ≡ take kept units ++ staying gone (drop index units) (drop index marks)
+staying_kept gone units marks kept index unit mark within marked behind is_unit is_mark stay =
+    let rest = staying gone (drop (index + 1) units) (drop (index + 1) marks) in
+    ap (λ us. us ++ staying gone (drop (index + 1) (set units kept unit)) (drop (index + 1) marks)) (take_more_set units kept unit (omega arith))
+    ∙ ap (λ us. (take kept units ++ unit ∷ []) ++ staying gone us (drop (index + 1) marks)) (drop-set-lt (index + 1) units kept unit (omega arith))
+    ∙ append_assoc (take kept units) (unit ∷ []) rest
+    ∙ ap (λ t. take kept units ++ cond t (unit ∷ rest) rest) (sym stay)
+    ∙ ap (λ us. take kept units ++ staying gone us (mark ∷ drop (index + 1) marks)) (sym (next_of units index unit within is_unit))
+    ∙ ap (λ ms. take kept units ++ staying gone (drop index units) ms) (sym (next_of marks index mark marked is_mark))
+
+-- one unit more that does not
+pub staying_gone : (gone : List Mark) (units : List ℕ) (marks : List Mark) (kept index : ℕ) (mark : Mark)
+    → index < length units → index < length marks → mark ≡ slice_index_or marks index mark → stays gone mark ≡ false
+    → take kept units ++ staying gone (drop (index + 1) units) (drop (index + 1) marks)
+    ≡ take kept units ++ staying gone (drop index units) (drop index marks)
+staying_gone gone units marks kept index mark within marked is_mark gone_too =
+    let rest = staying gone (drop (index + 1) units) (drop (index + 1) marks) in
+    let unit = get_or units index 0 in
+    ap (λ t. take kept units ++ cond t (unit ∷ rest) rest) (sym gone_too)
+    ∙ ap (λ us. take kept units ++ staying gone us (mark ∷ drop (index + 1) marks)) (sym (drop_more units index 0 within))
+    ∙ ap (λ ms. take kept units ++ staying gone (drop index units) ms) (sym (next_of marks index mark marked is_mark))
+
+staying_none : (gone : List Mark) (marks : List Mark) → staying gone [] marks ≡ []
+staying_none gone marks = refl
+
+-- the units of two insertions that stay
+staying-append : (gone : List Mark) (xs ys : List ℕ) (marks : List Mark) → length xs ≤ length marks
+    → staying gone (xs ++ ys) marks ≡ staying gone xs marks ++ staying gone ys (drop (length xs) marks)
+staying-append gone [] ys marks enough = refl
+staying-append gone (x ∷ xs) ys [] enough = absurd (omega arith)
+staying-append gone (x ∷ xs) ys (mark ∷ marks) enough =
+    let rest = staying-append gone xs ys marks (omega arith) in
+    by_test (staying gone (xs ++ ys) marks) (staying gone xs marks) (staying gone ys (drop (length xs) marks)) x (stays gone mark) rest
+  where
+    by_test : (us vs ws : List ℕ) (u : ℕ) (test : Bool) → us ≡ vs ++ ws → cond test (u ∷ us) us ≡ cond test (u ∷ vs) vs ++ ws
+    by_test us vs ws u true is = ap (λ xs. u ∷ xs) is
+    by_test us vs ws u false is = is
+
+-- as many units stay as marks do
+length-staying : (gone : List Mark) (units : List ℕ) (marks : List Mark) → length units ≡ length marks → length (staying gone units marks) ≡ length (filter (stays gone) marks)
+length-staying gone [] [] same = refl
+length-staying gone [] (mark ∷ marks) same = absurd (omega arith)
+length-staying gone (unit ∷ units) [] same = absurd (omega arith)
+length-staying gone (unit ∷ units) (mark ∷ marks) same =
+    by_test (staying gone units marks) (filter (stays gone) marks) unit mark (stays gone mark) (length-staying gone units marks (omega arith))
+  where
+    by_test : (us : List ℕ) (ms : List Mark) (u : ℕ) (m : Mark) (test : Bool) → length us ≡ length ms → length (cond test (u ∷ us) us) ≡ length (cond test (m ∷ ms) ms)
+    by_test us ms u m true is = ap suc is
+    by_test us ms u m false is = is
+
+-- what is inserted are the units that stay
+insertions-thinned : (gone : List Mark) (operations : List Operation) (marks : List Mark) → length (insertions operations) ≤ length marks
+    → insertions (thinned gone operations marks) ≡ staying gone (insertions operations) marks
+insertions-thinned gone [] marks enough = refl
+insertions-thinned gone (operation ∷ operations) marks enough =
+    let size = length-append operation.insert (insertions operations) in
+    let left = length-drop (length operation.insert) marks in
+    ap (λ us. staying gone operation.insert marks ++ us) (insertions-thinned gone operations (drop (length operation.insert) marks) (omega arith))
+    ∙ sym (staying-append gone operation.insert (insertions operations) marks (omega arith))
+
+-- what a test of two tells
+not_needed : (operation : Operation) (removes inserts : Bool) → nat_lt 0 operation.remove ≡ removes → nat_lt 0 (length operation.insert) ≡ inserts → (removes || inserts) ≡ false
+    → operation.insert ≡ []
+not_needed operation removes true is_remove is_insert nothing = absurd (cc_or removes nothing)
+  where
+    cc_or : (b : Bool) → (b || true) ≡ false → ⊥
+    cc_or true is = cc
+    cc_or false is = cc
+not_needed operation removes false is_remove is_insert nothing =
+    let none = ltb-false 0 (length operation.insert) is_insert in
+    nil_from_length operation.insert (omega arith)
+
+insertions-filter_by : (operation : Operation) (operations : List Operation) (test : Bool) → is_needed operation ≡ test
+    → insertions (cond test (operation ∷ operations) operations) ≡ operation.insert ++ insertions operations
+insertions-filter_by operation operations true is = refl
+insertions-filter_by operation operations false is =
+    ap (λ us. us ++ insertions operations) (sym (not_needed operation (nat_lt 0 operation.remove) (nat_lt 0 (length operation.insert)) refl refl is))
+
+-- operations that are left out insert nothing
+insertions-filter : (operations : List Operation) → insertions (filter is_needed operations) ≡ insertions operations
+insertions-filter [] = refl
+insertions-filter (operation ∷ operations) =
+    insertions-filter_by operation (filter is_needed operations) (is_needed operation) refl ∙ ap (λ us. operation.insert ++ us) (insertions-filter operations)
+
+-- operations from a place on, of which none touches the next
+abbrev AreClear : ℕ → List Operation → Type 0
+AreClear low [] = Unit {0}
+AreClear low (operation ∷ operations) = (low ≤ operation.offset) × AreClear (suc (end_of operation)) operations
+
+clear_lower : (low lower : ℕ) (operations : List Operation) → lower ≤ low → AreClear low operations → AreClear lower operations
+clear_lower low lower [] order clear = tt
+clear_lower low lower (operation ∷ operations) order clear = let starts = clear.0 in (omega arith, clear.1)
+
+clear-thinned : (gone : List Mark) (low : ℕ) (operations : List Operation) (marks : List Mark) → IsSpaced low operations → AreClear low (thinned gone operations marks)
+clear-thinned gone low [] marks spaced = tt
+clear-thinned gone low (operation ∷ operations) marks spaced =
+    (spaced.0, clear-thinned gone (suc (end_of operation)) operations (drop (length operation.insert) marks) spaced.2)
+
+needed_true : (operation : Operation) (removes : Bool) → nat_lt 0 operation.remove ≡ removes → (removes || nat_lt 0 (length operation.insert)) ≡ true
+    → (0 < operation.remove) ⊎ (0 < length operation.insert)
+needed_true operation true is needed = inl (ltb-true 0 operation.remove is)
+needed_true operation false is needed = inr (ltb-true 0 (length operation.insert) needed)
+
+spaced-filter_by : (low : ℕ) (operation : Operation) (operations : List Operation) (test : Bool) → is_needed operation ≡ test → low ≤ operation.offset
+    → IsSpaced (suc (end_of operation)) operations → IsSpaced low (cond test (operation ∷ operations) operations)
+spaced-filter_by low operation operations true is starts spaced =
+    (starts, needed_true operation (nat_lt 0 operation.remove) refl is, spaced)
+spaced-filter_by low operation operations false is starts spaced =
+    spaced_lower (suc (end_of operation)) low operations (omega arith) spaced
+  where
+    spaced_lower : (low lower : ℕ) (operations : List Operation) → lower ≤ low → IsSpaced low operations → IsSpaced lower operations
+    spaced_lower low lower [] order spaced = tt
+    spaced_lower low lower (operation ∷ operations) order spaced = let starts = spaced.0 in (omega arith, spaced.1, spaced.2)
+
+spaced-filter : (low : ℕ) (operations : List Operation) → AreClear low operations → IsSpaced low (filter is_needed operations)
+spaced-filter low [] clear = tt
+spaced-filter low (operation ∷ operations) clear =
+    spaced-filter_by low operation (filter is_needed operations) (is_needed operation) refl clear.0 (spaced-filter (suc (end_of operation)) operations clear.1)
+
+-- a stripped work is a work
+pub IsWork-stripped : (work of : Marked) → IsWork work → IsWork (stripped work of)
+unfolding stripped
+IsWork-stripped work of is_work =
+    let gone = of.marks in
+    let thin = thinned gone work.patch.ops work.marks in
+    let enough : length (insertions work.patch.ops) ≤ length work.marks = let counted = is_work.counted in omega arith in
+    record {
+      normal = normal_spaced (stripped work of).patch (spaced-filter 0 thin (clear-thinned gone 0 work.patch.ops work.marks (spaced_normal work.patch is_work.normal)));
+      counted =
+          sym (ap length (insertions-filter thin ∙ insertions-thinned gone work.patch.ops work.marks enough)
+          ∙ length-staying gone (insertions work.patch.ops) work.marks (sym is_work.counted));
+      different = AllPairs-filter (λ earlier later. earlier ≢ later) (stays gone) work.marks is_work.different;
+    }
+
+-- the fields of a work that was stripped
+pub stripped_is : (work of : Marked) (ops : List Operation) (marks : List Mark) → ops ≡ filter is_needed (thinned of.marks work.patch.ops work.marks) → marks ≡ filter (stays of.marks) work.marks
+    → record { patch = record { ops = ops; before = work.patch.before }; marks = marks } ≡ stripped work of
+unfolding stripped
+stripped_is work of ops marks is_ops is_marks =
+    let marked_of : List Operation → List Mark → Marked = λ os ms. record { patch = record { ops = os; before = work.patch.before }; marks = ms } in
+    ap (λ os. marked_of os marks) is_ops ∙ ap (marked_of (filter is_needed (thinned of.marks work.patch.ops work.marks))) is_marks
+
+-- where an operation of a stripped work comes from
+record IsPart (operations : List Operation) (part : Operation) : Type 0 where
+  index : ℕ
+  whole : Operation
+  stands : slice_get operations index ≡ Some whole
+  starts : part.offset ≡ whole.offset
+  removes : part.remove ≡ whole.remove
+
+part_later : (operation part : Operation) (operations : List Operation) → IsPart operations part → IsPart (operation ∷ operations) part
+part_later operation part operations found = record {
+  index = suc found.index;
+  whole = found.whole;
+  stands = found.stands;
+  starts = found.starts;
+  removes = found.removes;
+}
+
+part_by : (operation thin : Operation) (operations later : List Operation) (test : Bool) → thin.offset ≡ operation.offset → thin.remove ≡ operation.remove
+    → ((index : ℕ) (part : Operation) → slice_get later index ≡ Some part → IsPart operations part)
+    → (index : ℕ) (part : Operation) → slice_get (cond test (thin ∷ later) later) index ≡ Some part → IsPart (operation ∷ operations) part
+part_by operation thin operations later true starts removes found zero part is =
+    let same : thin ≡ part = cc in
+    record {
+      index = 0;
+      whole = operation;
+      stands = refl;
+      starts = ap (λ (o : Operation). o.offset) (sym same) ∙ starts;
+      removes = ap (λ (o : Operation). o.remove) (sym same) ∙ removes;
+    }
+part_by operation thin operations later true starts removes found (suc index) part is = part_later operation part operations (found index part is)
+part_by operation thin operations later false starts removes found index part is = part_later operation part operations (found index part is)
+
+part_of : (gone : List Mark) (operations : List Operation) (marks : List Mark) (index : ℕ) (part : Operation)
+    → slice_get (filter is_needed (thinned gone operations marks)) index ≡ Some part → IsPart operations part
+part_of gone [] marks index part is = cc
+part_of gone (operation ∷ operations) marks index part is =
+    let thin : Operation = record operation { insert = staying gone operation.insert marks } in
+    part_by operation thin operations (filter is_needed (thinned gone operations (drop (length operation.insert) marks))) (is_needed thin) refl refl
+    (λ i p is_part. part_of gone operations (drop (length operation.insert) marks) i p is_part) index part is
+
+-- a stripped work can be applied where the work can
+pub CanApply-stripped : (work of : Marked) (text : List ℕ) → IsWork work → CanApply work.patch text → CanApply (stripped work of).patch text
+unfolding stripped
+CanApply-stripped work of text is_work can = record {
+  ordered = ordered_normal (stripped work of).patch (IsWork-stripped work of is_work).normal;
+  inside = λ index (part, is, late).
+      let found = part_of of.marks work.patch.ops work.marks index part is in
+      can.inside found.index (found.whole, found.stands, omega (arith, found.starts, found.removes));
+  whole = λ index (part, is, cut).
+      let found = part_of of.marks work.patch.ops work.marks index part is in
+      let ends : end_of part ≡ end_of found.whole = omega (arith, found.starts, found.removes) in
+      elim cut [
+        | inl start ↦ can.whole found.index (found.whole, found.stands, inl (subst (CutsPair text) found.starts start))
+        | inr end ↦ can.whole found.index (found.whole, found.stands, inr (subst (CutsPair text) ends end))
+      ];
+}

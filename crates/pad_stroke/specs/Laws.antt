@@ -1,0 +1,72 @@
+-- What holds of all works.
+use Rattle.std.specs.Prelude.{◌≡◌, ℕ, ◌+◌, ◌<◌, ◌^◌, ◌⊎◌, ◌↔◌, List, [], ◌++◌, length, map, take, drop, Option, Some, None, replicate, count_by, Contains, All}
+use Rattle.std.specs.List.{filter_map}
+use Rattle.std.specs.Option.{option_map}
+use Rattle.pad_text.specs.Text.{IsText}
+use Rattle.pad_patch.specs.declared.operation.Operation.{Operation}
+use Rattle.pad_patch.specs.declared.patch.Patch.{Patch}
+use Rattle.pad_patch.specs.Piece.{end_of, text_after, inserted}
+use Rattle.pad_merge.specs.declared.origin.Origin.TheVariants.{First}
+use Rattle.pad_merge.specs.Origin.{origins_after}
+use Rattle.pad_transform.specs.Table.{transformed_all}
+use Rattle.pad_transform.specs.Carried.{BothApply}
+use Rattle.pad_stroke.specs.declared.mark.Mark.{Mark}
+use Rattle.pad_stroke.specs.Mark.{NoRepeat, marks_of}
+use Rattle.pad_stroke.specs.Work.{Marked}
+use Rattle.pad_stroke.specs.InTurn.{mark_from, in_turn}
+use Rattle.pad_stroke.specs.Edit.{edited}
+use Rattle.pad_stroke.specs.Strip.{same_mark, stripped}
+
+-- a mark stands once where it stands at all
+abbrev pub MarksStandOnce : Type 0
+MarksStandOnce =
+    (marks : List Mark) (mark : Mark) → NoRepeat marks
+    → (Contains marks mark × (count_by (λ other. same_mark other mark) marks ≡ 1))
+    ⊎ (¬ (Contains marks mark) × (count_by (λ other. same_mark other mark) marks ≡ 0))
+
+-- each mark of two works in turn is a mark of one of them
+abbrev pub MarksComeFromEither : Type 0
+MarksComeFromEither =
+    (first second : Marked) (size : ℕ) (mark : Mark) → length first.marks ≡ length (inserted first.patch) → length second.marks ≡ length (inserted second.patch)
+    → Contains (in_turn first second size).marks mark → Contains first.marks mark ⊎ Contains second.marks mark
+
+-- each mark of the second one stays
+abbrev pub SecondMarksStay : Type 0
+SecondMarksStay =
+    (first second : Marked) (size : ℕ) (mark : Mark) → length second.marks ≡ length (inserted second.patch)
+    → Contains second.marks mark → Contains (in_turn first second size).marks mark
+
+-- a stripped work has the marks that the other work has not
+abbrev pub StrippedMarks : Type 0
+StrippedMarks = (work of : Marked) (mark : Mark) → Contains (stripped work of).marks mark ↔ (Contains work.marks mark × ¬ (Contains of.marks mark))
+
+-- the marks that are there
+abbrev pub somes : {A : Type 0} → List (Option A) → List A
+somes items = filter_map (λ item. item) items
+
+-- the marks of the units of the shown text, from left to right, where the text before the work has `size` units:
+-- none where a unit is one of that text
+abbrev pub shown_marks : Marked → ℕ → List (Option Mark)
+shown_marks work size = map (option_map (mark_from work.marks [])) (origins_after First work.patch (replicate size None))
+
+-- each mark of a work is shown, in order
+abbrev pub MarksAreShown : Type 0
+MarksAreShown = (work : Marked) (size : ℕ) → length work.marks ≡ length (inserted work.patch) → somes (shown_marks work size) ≡ work.marks
+
+-- an edit puts its marks in place of those of the shown units that it removes
+abbrev pub EditMarks : Type 0
+EditMarks =
+    (work : Marked) (operation : Operation) (stroke size : ℕ)
+    → (edited work operation stroke size).marks
+    ≡ somes (take operation.offset (shown_marks work size) ++ (map Some (marks_of stroke (length operation.insert)) ++ drop (end_of operation) (shown_marks work size)))
+
+-- the transformed operations end within 32 bits where the text after the other patch is that short
+abbrev pub EndsFitWithin : Type 0
+EndsFitWithin =
+    (patch by : Patch) (text : List ℕ) → BothApply patch by text → All (λ (operation : Operation). IsText operation.insert) by.ops → length (text_after by text) < 2 ^ 32
+    → All (λ operation. end_of operation < 2 ^ 32) (transformed_all patch by)
+
+-- or where there is room behind each operation's end for all that the other patch inserts
+abbrev pub EndsFitWithRoom : Type 0
+EndsFitWithRoom =
+    (patch by : Patch) → All (λ (operation : Operation). end_of operation + length (inserted by) < 2 ^ 32) patch.ops → All (λ operation. end_of operation < 2 ^ 32) (transformed_all patch by)

@@ -1,0 +1,7 @@
+pub mod Mark
+pub mod Work
+pub mod InTurn
+pub mod Edit
+pub mod Through
+pub mod Strip
+pub mod Laws

@@ -1,0 +1,42 @@
+//! Laws over the definitions, each proved once.
+ghost use Rattle.pad_stroke.specs.Laws.{MarksStandOnce, MarksComeFromEither, SecondMarksStay, StrippedMarks, MarksAreShown, EditMarks, EndsFitWithin, EndsFitWithRoom};
+
+/// A mark stands once in a work where it stands at all.
+pub fn marks_stand_once()
+    ensures { MarksStandOnce }
+{}
+
+/// Each mark of two works in turn is a mark of one of them.
+pub fn marks_come_from_either()
+    ensures { MarksComeFromEither }
+{}
+
+/// Each mark of the second one of two works in turn stays.
+pub fn second_marks_stay()
+    ensures { SecondMarksStay }
+{}
+
+/// A stripped work has the marks that the other work has not.
+pub fn stripped_marks()
+    ensures { StrippedMarks }
+{}
+
+/// Each mark of a work is the mark of a unit of the shown text, in order.
+pub fn marks_are_shown()
+    ensures { MarksAreShown }
+{}
+
+/// An edit puts its marks in place of those of the shown units that it removes.
+pub fn edit_marks()
+    ensures { EditMarks }
+{}
+
+/// The ends of the transformed operations fit where the text after the other patch has fewer than 2^32 units.
+pub fn ends_fit_within()
+    ensures { EndsFitWithin }
+{}
+
+/// They fit where there is room behind each operation's end for all that the other patch inserts.
+pub fn ends_fit_with_room()
+    ensures { EndsFitWithRoom }
+{}

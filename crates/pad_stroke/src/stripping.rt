@@ -1,0 +1,94 @@
+ghost use Rattle.std.specs.Prelude.{◌≡◌, ◌≤◌, length, filter, All};
+ghost use Rattle.pad_text.specs.Text.{IsText};
+ghost use Rattle.pad_stroke.specs.Strip.{insertions, stays, staying, thinned, is_needed};
+
+use crate::mark::Mark;
+use pad_patch::Operation;
+use pad_text::{Text, texts_are_kept_by_cuts};
+use std::alloc::Global;
+
+/// Takes the marks that are gone out of a list of marks.
+pub(crate) fn strip_marks(marks: &mut Vec<Mark>, gone: &[Mark])
+    ensures { marks.new.items ≡ filter (stays gone.now) marks.old.items }
+{
+    marks.retain(|mark| mark_stays(mark, gone));
+}
+
+/// The operations without the inserted units whose marks are gone, and without those operations that are empty then.
+/// Each inserted unit has its mark.
+pub(crate) fn strip_operations(
+    mut ops: Vec<Operation>,
+    marks: &[Mark],
+    gone: &[Mark],
+) -> Vec<Operation>
+    requires marked { length (insertions ops.items) ≤ length marks.now }
+    requires texts { All (λ operation. IsText operation.insert) (thinned gone.now ops.items marks.now) }
+    ensures { result.items ≡ filter is_needed (thinned gone.now ops.items marks.now) }
+{
+    let alloc = *ops.allocator();
+    thin(alloc, ops.as_mut_slice(), marks, gone);
+    leave_out_empty(&mut ops);
+    ops
+}
+
+/// Whether a mark is not gone.
+fn mark_stays(mark: &Mark, gone: &[Mark]) -> bool
+    ensures { result ≡ stays gone.now mark.now }
+{
+    !gone.contains(mark)
+}
+
+/// Whether an operation removes or inserts something.
+fn does_something(op: &Operation) -> bool
+    ensures { result ≡ is_needed op.now }
+{
+    0 < op.remove || 0 < op.insert.len()
+}
+
+/// Leaves out the operations that remove and insert nothing.
+fn leave_out_empty(ops: &mut Vec<Operation>)
+    ensures { ops.new.items ≡ filter is_needed ops.old.items }
+{
+    ops.retain(|op| does_something(op));
+}
+
+/// Takes the inserted units whose marks are gone out of the operations.
+fn thin(alloc: Global, ops: &mut [Operation], marks: &[Mark], gone: &[Mark])
+    requires marked { length (insertions ops.old) ≤ length marks.now }
+    requires texts { All (λ operation. IsText operation.insert) (thinned gone.now ops.old marks.now) }
+    ensures { ops.new ≡ thinned gone.now ops.old marks.now }
+{
+    let mut left = marks;
+    for op in ops.iter_mut() {
+        let count = op.insert.len();
+        thin_operation(alloc, op, left, gone);
+        left = left.split_at(count).1;
+    }
+}
+
+/// Takes the inserted units whose marks are gone out of an operation. It takes no memory: an empty text has none.
+fn thin_operation(alloc: Global, op: &mut Operation, marks: &[Mark], gone: &[Mark])
+    requires marked { length op.old.insert ≤ length marks.now }
+    requires text { IsText (staying gone.now op.old.insert marks.now) }
+    ensures { op.new ≡ record op.old { insert = staying gone.now op.old.insert marks.now } }
+{
+    texts_are_kept_by_cuts();
+    let insert = std::mem::replace(&mut op.insert, Text::from_units(Vec::new(alloc)));
+    op.insert = Text::from_units(staying_units(insert.into_units(), marks, gone));
+}
+
+/// The units whose marks are not gone.
+fn staying_units(mut units: Vec<u16>, marks: &[Mark], gone: &[Mark]) -> Vec<u16>
+    requires { length units.items ≤ length marks.now }
+    ensures { result.items ≡ staying gone.now units.items marks.now }
+{
+    let mut kept = 0;
+    for index in 0..units.len() {
+        if mark_stays(&marks[index], gone) {
+            units[kept] = units[index];
+            kept += 1;
+        }
+    }
+    units.truncate(kept);
+    units
+}

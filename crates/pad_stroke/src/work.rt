@@ -1,0 +1,289 @@
+ghost use Rattle.std.specs.Prelude.{◌≡◌, ◌≢◌, ℕ, ◌^◌, ◌<◌, ◌↔◌, List, [], length, IfOk, IfErr, OnOk, OnErr, IsTrue, Contains};
+ghost use Rattle.std.specs.List.{All};
+ghost use Rattle.pad_text.specs.Text.{IsText};
+ghost use Rattle.pad_text.specs.Hash.{document_hash};
+ghost use Rattle.pad_patch.specs.Piece.{end_of, text_after, inserted};
+ghost use Rattle.pad_patch.specs.Misfit.{CanApply};
+ghost use Rattle.pad_merge.specs.Merge.{CanMerge};
+ghost use Rattle.pad_transform.specs.Table.{transformed_all, SumsFitThrough};
+ghost use Rattle.pad_transform.specs.Carried.{BothApply, FitsButLength, RemovesOnlyKept};
+
+use crate::edit_refused::EditRefused;
+use crate::editing::{allow, marks_from, marks_typed};
+use crate::joining::join_touching;
+use crate::mark::Mark;
+use crate::stripping::{strip_marks, strip_operations};
+use pad_merge::laws::{
+    applied_patches_merge, no_origin_twice, one_origin_each, origins_name_units,
+};
+use pad_merge::merge_from;
+use pad_patch::{Operation, Operations, Patch, UnitStore};
+use pad_text::{Name, Text};
+use pad_transform::transform;
+use std::alloc::{AllocError, Global};
+use std::marker::Model;
+
+/// Work that was not sent: a patch in normal form, and a mark for each unit that it inserts, no mark twice.
+/// Contracts see the patch and the list of the marks.
+#[derive(Debug, Drop)]
+pub struct Work {
+    patch: Patch,
+    marks: Vec<Mark>,
+}
+
+impl Model for Work {
+    ghost use Rattle.pad_stroke.specs.Work.{Marked, IsWork};
+
+    ghost Value = { Marked };
+
+    ghost view = { λ work. record { patch = work.patch; marks = work.marks.items } };
+
+    ghost invariant = { λ work. IsWork (record { patch = work.patch; marks = work.marks.items }) };
+}
+
+impl Work {
+    ghost use Rattle.pad_stroke.specs.Mark.{NoRepeat, NoneInBoth};
+    ghost use Rattle.pad_stroke.specs.Work.{IsWork, empty};
+    ghost use Rattle.pad_stroke.specs.InTurn.{in_turn};
+    ghost use Rattle.pad_stroke.specs.Edit.{IsAllowed, IsCause, shown_after, typed, edited};
+    ghost use Rattle.pad_stroke.specs.Through.{carried};
+    ghost use Rattle.pad_stroke.specs.Strip.{thinned, stripped};
+
+    /// A work without operations, on a text with this document hash.
+    pub fn new(alloc: Global, before: Name) -> Result<Work, AllocError>
+        ensures { IfOk result (λ work. work ≡ empty before) }
+    {
+        Ok(Work {
+            patch: Patch {
+                ops: Operations::new(Vec::new(alloc)),
+                before,
+            },
+            marks: Vec::new(alloc),
+        })
+    }
+
+    /// Merges an operation on the shown text, which is the text with the work applied, into the work. The units that it
+    /// inserts get the marks of this stroke, from index 0. It is unchanged when refused.
+    pub fn edit<S: UnitStore>(
+        &mut self,
+        alloc: Global,
+        text: &S,
+        op: Operation,
+        stroke: u64,
+    ) -> Result<(), EditRefused>
+        requires small { length (S.units text.now) < 2 ^ 32 }
+        requires applies { CanApply self.old.patch (S.units text.now) }
+        requires hash { self.old.patch.before ≡ document_hash (S.units text.now) }
+        requires fresh { All (λ mark. mark.stroke ≢ stroke) self.old.marks }
+        ensures edited { OnOk result (self.new ≡ edited self.old op stroke (length (S.units text.now))) }
+        ensures shown { OnOk result (text_after self.new.patch (S.units text.now)
+            ≡ shown_after op (text_after self.old.patch (S.units text.now))) }
+        ensures applies { OnOk result (CanApply self.new.patch (S.units text.now)) }
+        ensures before { self.new.patch.before ≡ self.old.patch.before }
+        ensures err { OnErr result (self.new ≡ self.old) }
+
+        // Each refusal comes exactly where its cause does.
+        ensures allowed { OnOk result (IsAllowed (text_after self.old.patch (S.units text.now)) op) }
+        ensures cause { IfErr result (IsCause (text_after self.old.patch (S.units text.now)) op) }
+    {
+        applied_patches_merge();
+        let shown = self.shown(alloc, text)?;
+        allow(&shown, &op)?;
+        *self = self.after_typing(alloc, op, stroke, text.length())?;
+        Ok(())
+    }
+
+    /// Takes back work that was done before this one: it becomes that work, on a text of `len` units, and then this one.
+    /// It is unchanged where there is no memory.
+    pub fn take_back(&mut self, alloc: Global, of: &Work, len: usize) -> Result<(), AllocError>
+        requires small { len < 2 ^ 32 }
+        requires can { CanMerge of.now.patch self.old.patch len }
+        requires apart { NoneInBoth of.now.marks self.old.marks }
+        ensures taken_back { OnOk result (self.new ≡ in_turn of.now self.old len) }
+        ensures both { OnOk result ((text : List ℕ) → length text ≡ len
+            → text_after self.new.patch text ≡ text_after self.old.patch (text_after of.now.patch text)) }
+        ensures applies { OnOk result ((text : List ℕ) → length text ≡ len → CanApply of.now.patch text
+            → CanApply self.old.patch (text_after of.now.patch text) → CanApply self.new.patch text) }
+        ensures before { OnOk result (self.new.patch.before ≡ of.now.patch.before) }
+        ensures err { OnErr result (self.new ≡ self.old) }
+    {
+        *self = of.followed_by(alloc, &self.patch, self.marks.as_slice(), len)?;
+        Ok(())
+    }
+
+    /// Carries the work over a patch on the same text; `after` is the document hash of the text after that patch. Each
+    /// unit keeps its mark, and operations that touch then are joined. It is unchanged where there is no memory.
+    pub fn through(&mut self, alloc: Global, by: &Patch, after: &Name) -> Result<(), AllocError>
+        requires sums { All (SumsFitThrough by.now.ops) self.old.patch.ops }
+        requires ends { All (λ operation. end_of operation < 2 ^ 32) (transformed_all self.old.patch by.now) }
+        ensures carried { OnOk result (self.new ≡ carried self.old by.now after.now) }
+        ensures before { OnOk result (self.new.patch.before ≡ after.now) }
+        ensures insertions { OnOk result (inserted self.new.patch ≡ inserted self.old.patch) }
+        ensures marks { OnOk result (self.new.marks ≡ self.old.marks) }
+        ensures err { OnErr result (self.new ≡ self.old) }
+
+        // For each text to which both patches can be applied.
+        ensures applies { OnOk result ((text : List ℕ) → BothApply self.old.patch by.now text
+            → CanApply self.new.patch (text_after by.now text)) }
+        ensures fits { OnOk result ((text : List ℕ) → BothApply self.old.patch by.now text
+            → after.now ≡ document_hash (text_after by.now text)
+            → FitsButLength self.new.patch (text_after by.now text)) }
+        ensures removals { OnOk result ((text : List ℕ) → BothApply self.old.patch by.now text
+            → RemovesOnlyKept self.new.patch self.old.patch by.now text) }
+    {
+        let moved = transform(alloc, &self.patch, by, after)?;
+        self.patch = Patch {
+            ops: join_touching(alloc, moved.ops)?,
+            before: moved.before,
+        };
+        Ok(())
+    }
+
+    /// Takes out each inserted unit whose mark the other work has, and then each operation that is empty. It takes no memory.
+    pub fn strip(&mut self, of: &Work)
+        requires { All (λ operation. IsText operation.insert) (thinned of.now.marks self.old.patch.ops self.old.marks) }
+        ensures stripped { self.new ≡ stripped self.old of.now }
+        ensures applies { (text : List ℕ) → CanApply self.old.patch text → CanApply self.new.patch text }
+        ensures before { self.new.patch.before ≡ self.old.patch.before }
+    {
+        let alloc = *self.marks.allocator();
+        let gone = of.marks.as_slice();
+        let ops = std::mem::replace(&mut self.patch.ops, Operations::new(Vec::new(alloc)));
+        self.patch.ops = Operations::new(strip_operations(
+            ops.into_vec(),
+            self.marks.as_slice(),
+            gone,
+        ));
+        strip_marks(&mut self.marks, gone);
+    }
+
+    /// A copy of the patch.
+    pub fn patch(&self, alloc: Global) -> Result<Patch, AllocError>
+        ensures patch { IfOk result (λ patch. patch ≡ self.now.patch) }
+        ensures work { IsWork self.now }
+    {
+        copy_of(alloc, &self.patch)
+    }
+
+    /// A copy of the work.
+    pub fn copy(&self, alloc: Global) -> Result<Work, AllocError>
+        ensures { IfOk result (λ copy. copy ≡ self.now) }
+    {
+        Ok(Work {
+            patch: copy_of(alloc, &self.patch)?,
+            marks: self.marks.as_slice().to_vec(alloc)?,
+        })
+    }
+
+    /// Whether the patch has no operation.
+    pub fn is_empty(&self) -> bool
+        ensures empty { IsTrue result ↔ (self.now.patch.ops ≡ []) }
+        ensures work { IsWork self.now }
+    {
+        self.patch.ops.as_slice().is_empty()
+    }
+
+    /// Whether the work inserts the unit with this mark.
+    pub fn holds(&self, mark: Mark) -> bool
+        ensures holds { IsTrue result ↔ Contains self.now.marks mark }
+        ensures work { IsWork self.now }
+    {
+        self.marks.contains(&mark)
+    }
+
+    /// The text with the work applied.
+    fn shown<S: UnitStore>(&self, alloc: Global, text: &S) -> Result<Text, AllocError>
+        requires { CanApply self.now.patch (S.units text.now) }
+        ensures { IfOk result (λ shown. shown ≡ text_after self.now.patch (S.units text.now)) }
+    {
+        let shown = self.patch.apply(alloc, text)?;
+        shown.read(alloc, 0, shown.length())
+    }
+
+    /// The work and then an operation that one edit types, on a text of `len` units.
+    fn after_typing(
+        &self,
+        alloc: Global,
+        op: Operation,
+        stroke: u64,
+        len: usize,
+    ) -> Result<Work, AllocError>
+        requires small { len < 2 ^ 32 }
+        requires can { CanMerge self.now.patch (typed self.now op stroke).patch len }
+        requires fresh { All (λ mark. mark.stroke ≢ stroke) self.now.marks }
+        ensures edited { IfOk result (λ work. work ≡ edited self.now op stroke len) }
+        ensures both { IfOk result (λ work. (text : List ℕ) → length text ≡ len
+            → text_after work.patch text ≡ text_after (typed self.now op stroke).patch (text_after self.now.patch text)) }
+        ensures applies { IfOk result (λ work. (text : List ℕ) → length text ≡ len → CanApply self.now.patch text
+            → CanApply (typed self.now op stroke).patch (text_after self.now.patch text) → CanApply work.patch text) }
+        ensures before { IfOk result (λ work. work.patch.before ≡ self.now.patch.before) }
+    {
+        let marks = marks_typed(alloc, stroke, op.insert.len())?;
+        let mut ops = Vec::new(alloc);
+        ops.push(op)?;
+        let typed = Patch {
+            ops: Operations::new(ops),
+            before: self.patch.before,
+        };
+        self.followed_by(alloc, &typed, marks.as_slice(), len)
+    }
+
+    /// The work and then a patch whose inserted units have these marks, on a text of `len` units.
+    fn followed_by(
+        &self,
+        alloc: Global,
+        patch: &Patch,
+        marks: &[Mark],
+        len: usize,
+    ) -> Result<Work, AllocError>
+        requires small { len < 2 ^ 32 }
+        requires can { CanMerge self.now.patch patch.now len }
+        requires counted { length marks.now ≡ length (inserted patch.now) }
+        requires different { NoRepeat marks.now }
+        requires apart { NoneInBoth self.now.marks marks.now }
+        ensures in_turn { IfOk result (λ work. work ≡ in_turn self.now (record { patch = patch.now; marks = marks.now }) len) }
+        ensures both { IfOk result (λ work. (text : List ℕ) → length text ≡ len
+            → text_after work.patch text ≡ text_after patch.now (text_after self.now.patch text)) }
+        ensures applies { IfOk result (λ work. (text : List ℕ) → length text ≡ len → CanApply self.now.patch text
+            → CanApply patch.now (text_after self.now.patch text) → CanApply work.patch text) }
+        ensures before { IfOk result (λ work. work.patch.before ≡ self.now.patch.before) }
+    {
+        one_origin_each();
+        origins_name_units();
+        no_origin_twice();
+        let sourced = merge_from(alloc, &self.patch, patch, len)?;
+        let marks = marks_from(alloc, sourced.from.as_slice(), self.marks.as_slice(), marks)?;
+        Ok(Work {
+            patch: sourced.patch,
+            marks,
+        })
+    }
+}
+
+/// A copy of a patch.
+fn copy_of(alloc: Global, patch: &Patch) -> Result<Patch, AllocError>
+    ensures { IfOk result (λ copy. copy ≡ patch.now) }
+{
+    let mut ops = Vec::new(alloc);
+    for op in patch.ops.as_slice() {
+        ops.push(copy_of_operation(alloc, op)?)?;
+    }
+    Ok(Patch {
+        ops: Operations::new(ops),
+        before: patch.before,
+    })
+}
+
+/// A copy of an operation.
+fn copy_of_operation(alloc: Global, op: &Operation) -> Result<Operation, AllocError>
+    ensures { IfOk result (λ copy. copy ≡ op.now) }
+{
+    Ok(Operation {
+        offset: op.offset,
+        remove: op.remove,
+        insert: op.insert.slice(alloc, 0, op.insert.len())?,
+    })
+}
+
+#[cfg(test)]
+mod tests;

@@ -1,0 +1,223 @@
+//! Rows of values that were worked out by hand.
+ghost use Rattle.std.specs.Prelude.{◌≡◌, ◌≢◌, ◌<◌, IsTrue, All};
+ghost use Rattle.pad_text.specs.Hash.{document_hash};
+
+use super::*;
+use pad_patch::VecUnits;
+use std::test::Fail;
+
+/// An offset, a number of units to remove, and what to insert.
+type Row = (u32, u32, &'static str);
+
+fn operation_of(alloc: Global, (offset, remove, insert): Row) -> Result<Operation, AllocError> {
+    Ok(Operation {
+        offset,
+        remove,
+        insert: Text::from_str(alloc, insert)?,
+    })
+}
+
+/// A store of this text.
+fn store_of(alloc: Global, text: &str) -> Result<VecUnits, AllocError> {
+    VecUnits::from_text(alloc, &Text::from_str(alloc, text)?)
+}
+
+/// The operations of a work in brackets, and then its marks.
+fn row_of(alloc: Global, work: &Work) -> Result<String, AllocError> {
+    let mut row = String::new(alloc);
+    for op in work.patch.ops.as_slice() {
+        let insert = op.insert.to_string(alloc)?;
+        let part = format!(in alloc; "[{},{},{}]", op.offset, op.remove, insert)?;
+        row.push_str(part.as_str())?;
+    }
+    for mark in work.marks.as_slice() {
+        let part = format!(in alloc; "({},{})", mark.stroke, mark.index)?;
+        row.push_str(part.as_str())?;
+    }
+    Ok(row)
+}
+
+/// Whether no mark of a work has this stroke.
+fn is_new(work: &Work, stroke: u64) -> bool
+    ensures { IsTrue result → All (λ mark. mark.stroke ≢ stroke) work.now.marks }
+{
+    work.marks
+        .as_slice()
+        .iter()
+        .all(|mark| mark.stroke != stroke)
+}
+
+/// The word for how an edit went.
+fn word_of(edited: Result<(), EditRefused>) -> &'static str {
+    match edited {
+        Ok(()) => "",
+        Err(EditRefused::Range) => "Range ",
+        Err(EditRefused::Pair) => "Pair ",
+        Err(EditRefused::TooLong) => "TooLong ",
+        Err(EditRefused::NoMemory(_)) => "NoMemory ",
+    }
+}
+
+/// Edits a work on a text with this document hash, and tells how it went.
+fn edit<S: UnitStore>(
+    alloc: Global,
+    work: &mut Work,
+    text: &S,
+    hash: &Name,
+    row: Row,
+    stroke: u64,
+) -> Result<&'static str, AllocError>
+    requires hash { hash.now ≡ document_hash (S.units text.now) }
+    requires before { work.old.patch.before ≡ hash.now }
+    ensures { work.new.patch.before ≡ work.old.patch.before }
+{
+    let op = operation_of(alloc, row)?;
+    let applies = work.patch.fits(text, hash).is_ok();
+    if applies && text.length() < 1_000_000 && is_new(work, stroke) {
+        return Ok(word_of(work.edit(alloc, text, op, stroke)));
+    }
+    Ok("unmet ")
+}
+
+/// A new work on this text after edits, each with the next stroke from 1 on, and how they went.
+fn edited<S: UnitStore>(
+    alloc: Global,
+    text: &S,
+    rows: &[Row],
+) -> Result<(String, Work), AllocError> {
+    let hash = text.hash(alloc)?;
+    let mut work = Work::new(alloc, hash)?;
+    let mut told = String::new(alloc);
+    let mut stroke = 0u64;
+    for row in rows {
+        stroke = stroke.saturating_add(1);
+        told.push_str(edit(alloc, &mut work, text, &hash, *row, stroke)?)?;
+    }
+    Ok((told, work))
+}
+
+/// How edits of a new work on this text went, and then the work.
+fn told(alloc: Global, text: &str, rows: &[Row]) -> Result<String, AllocError> {
+    let (mut told, work) = edited(alloc, &store_of(alloc, text)?, rows)?;
+    told.push_str(row_of(alloc, &work)?.as_str())?;
+    Ok(told)
+}
+
+#[test]
+fn edits_are_merged_with_their_marks(rt: HostRuntime) -> Result<(), Fail> {
+    let alloc = rt.alloc();
+    let work = told(alloc, "abc", &[(3, 0, "xy"), (4, 0, "z"), (7, 0, "a")])?;
+    assert_eq!(rt; work.as_str(), "Range [3,0,xzy](1,0)(2,0)(1,1)");
+    // What is taken out again leaves no mark, and an edit of nothing changes nothing.
+    let rows = [(3, 0, "xy"), (4, 0, "z"), (3, 2, ""), (0, 0, "")];
+    assert_eq!(rt; told(alloc, "abc", &rows)?.as_str(), "[3,0,y](1,1)");
+    Ok(())
+}
+
+#[test]
+fn an_edit_inside_a_pair_is_refused(rt: HostRuntime) -> Result<(), Fail> {
+    // A pair of the text, one that was typed, and a range that also ends after the text.
+    let rows = [
+        (2, 0, "x"),
+        (0, 2, ""),
+        (1, 0, "\u{1F601}"),
+        (2, 0, "x"),
+        (2, 9, "x"),
+        (3, 2, "x"),
+    ];
+    let work = told(rt.alloc(), "a\u{1F600}", &rows)?;
+    assert_eq!(rt;
+        work.as_str(),
+        "Pair Pair Pair Range [1,2,\u{1F601}x](3,0)(3,1)(6,0)"
+    );
+    Ok(())
+}
+
+/// A text of so many letters.
+fn letters(alloc: Global, count: u32) -> Result<String, AllocError> {
+    let mut letters = String::new(alloc);
+    for _ in 0..count {
+        letters.push('a')?;
+    }
+    Ok(letters)
+}
+
+#[test]
+fn a_text_that_is_as_long_as_it_may_be_does_not_grow(rt: HostRuntime) -> Result<(), Fail> {
+    let text = letters(rt.alloc(), 262_144)?;
+    let rows = [(0, 0, "c"), (0, 1, "c"), (0, 1, ""), (0, 0, "d")];
+    let work = told(rt.alloc(), text.as_str(), &rows)?;
+    assert_eq!(rt; work.as_str(), "TooLong [0,1,d](4,0)");
+    Ok(())
+}
+
+#[test]
+fn a_text_that_is_too_long_may_shrink(rt: HostRuntime) -> Result<(), Fail> {
+    let alloc = rt.alloc();
+    let shown = Text::from_str(alloc, letters(alloc, 262_146)?.as_str())?;
+    assert!(rt; allow(&shown, &operation_of(alloc, (0, 1, "bc"))?).is_err());
+    assert!(rt; allow(&shown, &operation_of(alloc, (0, 1, "b"))?).is_ok());
+    assert!(rt; allow(&shown, &operation_of(alloc, (0, 1, ""))?).is_ok());
+    Ok(())
+}
+
+#[test]
+fn a_work_tells_what_it_has(rt: HostRuntime) -> Result<(), Fail> {
+    let alloc = rt.alloc();
+    let (_, work) = edited(alloc, &store_of(alloc, "abc")?, &[(1, 1, "xy")])?;
+    assert!(rt; !work.is_empty());
+    assert!(rt;
+        work.holds(Mark {
+            stroke: 1,
+            index: 1
+        })
+    );
+    assert!(rt;
+        !work.holds(Mark {
+            stroke: 1,
+            index: 2
+        })
+    );
+    assert_eq!(rt;
+        row_of(alloc, &work.copy(alloc)?)?.as_str(),
+        "[1,1,xy](1,0)(1,1)"
+    );
+    assert_eq!(rt; work.patch(alloc)?.ops.into_vec().len(), 1);
+    Ok(())
+}
+
+/// Whether no unit of a text is a surrogate.
+fn is_plain(text: &Text) -> bool
+    ensures { IsTrue result → All (λ unit. unit < 55296) text.now }
+{
+    text.as_units().iter().all(|unit| *unit < 0xD800)
+}
+
+/// Whether no inserted unit is a surrogate.
+fn is_plain_patch(patch: &Patch) -> bool
+    ensures { IsTrue result → All (λ operation. All (λ unit. unit < 55296) operation.insert) patch.now.ops }
+{
+    patch.ops.as_slice().iter().all(|op| is_plain(&op.insert))
+}
+
+/// A work without the units of another one, where it inserts no surrogate.
+fn without(mut work: Work, of: &Work) -> Work {
+    if is_plain_patch(&work.patch) {
+        work.strip(of);
+    }
+    work
+}
+
+#[test]
+fn a_work_is_stripped_of_another(rt: HostRuntime) -> Result<(), Fail> {
+    let alloc = rt.alloc();
+    let text = store_of(alloc, "abc")?;
+    let (_, work) = edited(alloc, &text, &[(3, 0, "xy"), (4, 0, "z")])?;
+    let (_, of) = edited(alloc, &text, &[(3, 0, "x")])?;
+    let left = without(work, &of);
+    assert_eq!(rt; row_of(alloc, &left)?.as_str(), "[3,0,zy](2,0)(1,1)");
+    // An operation that is empty then is left out, and one that removes stays.
+    let (_, work) = edited(alloc, &text, &[(3, 0, "x"), (0, 1, "")])?;
+    assert_eq!(rt; row_of(alloc, &without(work, &of))?.as_str(), "[0,1,]");
+    Ok(())
+}
