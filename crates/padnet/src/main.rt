@@ -4,18 +4,27 @@
 mod reader_source;
 mod writer_sink;
 
-use pad_top::run;
+use pad_top::{Status, run};
 use reader_source::ReaderSource;
+use std::env;
+use std::io::{self, ErrorKind};
 use std::process::ExitCode;
-use std::{env, io};
 use writer_sink::WriterSink;
 
 fn main(rt: HostRuntime) -> ExitCode {
+    let words = match words(&rt) {
+        Ok(words) => words,
+        Err(error) if error.kind() == ErrorKind::OutOfMemory => return exit(Status::NoMemory),
+        // Arguments that cannot be had as text are no command, as no arguments are.
+        Err(_) => Vec::new(rt.alloc()),
+    };
     let mut input = ReaderSource::new(rt.stdin());
     let mut output = WriterSink::new(rt.stdout());
-    // Arguments that cannot be had as text are no command, as no arguments are.
-    let words = words(&rt).unwrap_or(Vec::new(rt.alloc()));
-    let status = run(rt.alloc(), words.as_slice(), &mut input, &mut output);
+    exit(run(rt.alloc(), words.as_slice(), &mut input, &mut output))
+}
+
+/// The exit status of a status.
+fn exit(status: Status) -> ExitCode {
     ExitCode::from(status.number())
 }
 

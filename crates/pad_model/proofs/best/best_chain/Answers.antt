@@ -1,4 +1,4 @@
-use Rattle.std.proofs.Common.{◌≡◌, ◌∙◌, ℕ, ◌-◌, ◌<◌, ◌≤◌, length, take_all, All, sym, ap, arith}
+use Rattle.std.proofs.Common.{◌∙◌, All, sym, ap, arith}
 use Rattle.std.specs.List.Sorted.{IsSorted}
 use Rattle.std.proofs.lemmas.List.Sorted.{All-permutation, Contains-permutation}
 use Rattle.std.proofs.lemmas.Option.{slice_get-get_or, slice_get_within}
@@ -39,4 +39,4 @@ returns c d =
     let every : HasEveryLinked c.args.base.now c.args.received.now c.deref-candidate-items.result.now = rw value (λ m linked. let e = c.requires.every d m linked in (e.0, Contains-permutation _ _ e.0 c.in_ok-sort.ensures.permutation e.1, e.2)) in
     best_none _ _ c.deref-candidate-items.result.now d each every
     (λ k e at. c.loop-candidate.invariant d k e (omega (arith, slice_get_within c.deref-candidate-items.result.now k e at, c.loop-candidate-test.false)) at) _
-    (c.in_ok-slice.ensures ∙ take_all (c.len.result - 0) c.args.base.now.text (omega (arith, c.len.ensures)))
+    c.in_ok-copy.ensures
