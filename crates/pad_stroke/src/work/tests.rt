@@ -1,9 +1,14 @@
 //! Rows of values that were worked out by hand.
-ghost use Rattle.std.specs.Prelude.{◌≡◌, ◌≢◌, ◌<◌, IsTrue, All};
+ghost use Rattle.std.specs.Prelude.{◌≡◌, ◌≢◌, ◌^◌, ◌<◌, length, IsTrue, IfSome, All, Contains};
 ghost use Rattle.pad_text.specs.Hash.{document_hash};
+ghost use Rattle.pad_patch.specs.Piece.{end_of, inserted};
+ghost use Rattle.pad_transform.specs.Table.{transformed_all, SumsFitThrough};
+ghost use Rattle.pad_stroke.specs.Mark.{NoneInBoth};
 
 use super::*;
+use crate::laws::ends_fit_with_room;
 use pad_patch::VecUnits;
+use pad_transform::laws::sums_fit_with_room;
 use std::test::Fail;
 
 /// An offset, a number of units to remove, and what to insert.
@@ -219,5 +224,112 @@ fn a_work_is_stripped_of_another(rt: HostRuntime) -> Result<(), Fail> {
     // An operation that is empty then is left out, and one that removes stays.
     let (_, work) = edited(alloc, &text, &[(3, 0, "x"), (0, 1, "")])?;
     assert_eq!(rt; row_of(alloc, &without(work, &of))?.as_str(), "[0,1,]");
+    Ok(())
+}
+
+/// Whether no mark stands in both works.
+fn are_apart(first: &Work, second: &Work) -> bool
+    ensures { IsTrue result → NoneInBoth first.now.marks second.now.marks }
+{
+    none_stands(first, second)
+}
+
+/// Whether none of the marks of a work stands in the other one.
+fn none_stands(first: &Work, second: &Work) -> bool
+    ensures { IsTrue result → All (λ mark. ¬ (Contains second.now.marks mark)) first.now.marks }
+{
+    first
+        .marks
+        .as_slice()
+        .iter()
+        .all(|mark| !second.holds(*mark))
+}
+
+/// Takes back a work on this text, where the conditions hold, and tells whether they do.
+fn take_back<S: UnitStore>(
+    alloc: Global,
+    work: &mut Work,
+    of: &Work,
+    text: &S,
+) -> Result<bool, AllocError> {
+    applied_patches_merge();
+    let hash = text.hash(alloc)?;
+    let size = text.length();
+    let applies = of.patch.fits(text, &hash).is_ok();
+    if !applies || 1000 < size || !are_apart(of, work) {
+        return Ok(false);
+    }
+    let after = of.patch.apply(alloc, text)?;
+    let after_hash = after.hash(alloc)?;
+    if work.patch.fits(&after, &after_hash).is_ok() {
+        work.take_back(alloc, of, size)?;
+        return Ok(true);
+    }
+    Ok(false)
+}
+
+/// How many units a patch inserts, where a number can say so.
+fn inserted_units(patch: &Patch) -> Option<usize>
+    ensures { IfSome result (λ units. units ≡ length (inserted patch.now)) }
+{
+    let mut units: usize = 0;
+    for op in patch.ops.as_slice() {
+        units = units.checked_add(op.insert.len())?;
+    }
+    Some(units)
+}
+
+/// Whether there is room for all that the other patch inserts.
+fn has_room(patch: &Patch, by: &Patch) -> bool
+    ensures sums { IsTrue result → All (SumsFitThrough by.now.ops) patch.now.ops }
+    ensures ends { IsTrue result → All (λ operation. end_of operation < 2 ^ 32) (transformed_all patch.now by.now) }
+{
+    sums_fit_with_room();
+    ends_fit_with_room();
+    let Some(units) = inserted_units(by) else {
+        return false;
+    };
+    units <= 1000 && patch.ops.as_slice().iter().all(|op| op.end() <= 1000)
+}
+
+/// Carries a work over a patch of this operation, where there is room, and tells whether there is.
+fn through(alloc: Global, work: &mut Work, row: Row) -> Result<bool, AllocError> {
+    let mut ops = Vec::new(alloc);
+    ops.push(operation_of(alloc, row)?)?;
+    let by = Patch {
+        ops: Operations::new(ops),
+        before: Name::BASE,
+    };
+    if has_room(&work.patch, &by) {
+        work.through(alloc, &by, &Name::BASE)?;
+        return Ok(true);
+    }
+    Ok(false)
+}
+
+#[test]
+fn work_is_taken_back_and_carried(rt: HostRuntime) -> Result<(), Fail> {
+    let alloc = rt.alloc();
+    let text = store_of(alloc, "")?;
+    let (_, sent) = edited(alloc, &text, &[(0, 0, "hi")])?;
+    let (_, mut work) = edited(alloc, &store_of(alloc, "hi")?, &[(0, 0, ""), (1, 0, "o")])?;
+    // The message is reverted: what it inserts is work again. Two other messages come, and leave again.
+    assert!(rt; take_back(alloc, &mut work, &sent, &text)?);
+    for row in [(0, 0, "abc"), (3, 0, "!"), (3, 1, ""), (0, 3, "")] {
+        assert_eq!(rt; row_of(alloc, &work)?.as_str(), "[0,0,hoi](1,0)(2,0)(1,1)");
+        assert!(rt; through(alloc, &mut work, row)?);
+    }
+    assert_eq!(rt; row_of(alloc, &work)?.as_str(), "[0,0,hoi](1,0)(2,0)(1,1)");
+    Ok(())
+}
+
+#[test]
+fn operations_that_come_to_touch_are_joined(rt: HostRuntime) -> Result<(), Fail> {
+    let alloc = rt.alloc();
+    let rows = [(1, 1, "x"), (3, 1, "y")];
+    let (_, mut work) = edited(alloc, &store_of(alloc, "abcde")?, &rows)?;
+    assert_eq!(rt; row_of(alloc, &work)?.as_str(), "[1,1,x][3,1,y](1,0)(2,0)");
+    assert!(rt; through(alloc, &mut work, (2, 1, ""))?);
+    assert_eq!(rt; row_of(alloc, &work)?.as_str(), "[1,2,xy](1,0)(2,0)");
     Ok(())
 }
