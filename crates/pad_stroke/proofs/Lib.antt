@@ -3,7 +3,6 @@ pub mod Normal
 pub mod Carrying
 pub mod Stripped
 pub mod Turns
-pub mod Pairs
 pub mod MarkLaws
 pub mod ShownMarks
 pub mod PlainUnits

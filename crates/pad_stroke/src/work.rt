@@ -14,7 +14,7 @@ use crate::joining::join_touching;
 use crate::mark::Mark;
 use crate::stripping::{strip_marks, strip_operations};
 use pad_merge::laws::{
-    applied_patches_merge, no_origin_twice, one_origin_each, origins_name_units,
+    applied_patches_merge, merged_applies, no_origin_twice, one_origin_each, origins_name_units,
 };
 use pad_merge::merge_from;
 use pad_patch::{Operation, Operations, Patch, UnitStore};
@@ -251,6 +251,7 @@ impl Work {
         one_origin_each();
         origins_name_units();
         no_origin_twice();
+        merged_applies();
         let sourced = merge_from(alloc, &self.patch, patch, len)?;
         let marks = marks_from(alloc, sourced.from.as_slice(), self.marks.as_slice(), marks)?;
         Ok(Work {

@@ -8,7 +8,6 @@ use Rattle.pad_stroke.specs.Mark.{NoneInBoth}
 use Rattle.pad_stroke.specs.InTurn.{mark_from, IsNamed, in_turn}
 use Rattle.pad_stroke.specs.Work.{Marked, IsWork}
 use Rattle.pad_stroke.proofs.Turns.{all_named, IsWork-in_turn, in_turn_is}
-use Rattle.pad_stroke.proofs.Pairs.{CanApply-merged}
 use Rattle.pad_stroke.proofs.work.Work.followed_by.Goals as goal
 use Rattle.pad_stroke.proofs.work.Work.followed_by.Goals.{After-as_slice-2, In_ok-marks, After-drop-sourced-2}
 
@@ -52,7 +51,7 @@ pub returns-clause-applies : goal.returns-clause-applies
 returns-clause-applies c text size can_first can_second =
     let first = subst (λ (w : Marked). CanApply w.patch text) (sym c.self.view_is) can_first in
     let second = subst (λ (w : Marked). CanApply c.args.patch.now (text_after w.patch text)) (sym c.self.view_is) can_second in
-    let applies = CanApply-merged c.self.inside.patch c.args.patch.now text first second in
+    let applies = c.merged_applies.ensures c.self.inside.patch c.args.patch.now text first second in
     let there = subst (λ n. CanApply (merged c.self.inside.patch c.args.patch.now n) text) size applies in
     subst (λ (p : Patch). CanApply p text) (sym c.in_ok-sourced.ensures.merged) there
 
