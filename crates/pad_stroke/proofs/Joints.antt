@@ -1,6 +1,7 @@
 -- Operations that touch, joined.
-use Rattle.std.proofs.Common.{◌≡◌, ℕ, suc, ◌+◌, ◌<◌, ◌≤◌, ◌⊎◌, inl, inr, Bool, true, false, cond, ◌==◌, List, [], ◌∷◌, ◌++◌, length, refl, sym, ◌∙◌, ap, subst, arith, append_assoc}
-use Rattle.std.specs.Prelude.{◌≢◌}
+use Rattle.std.proofs.Common.{◌≡◌, ℕ, suc, ◌+◌, ◌^◌, ◌<◌, ◌≤◌, ◌⊎◌, inl, inr, Bool, true, false, cond, ◌==◌, List, [], ◌∷◌, ◌++◌, length, refl, sym, ◌∙◌, ap, subst, arith, append_assoc}
+use Rattle.std.specs.Prelude.{◌≢◌, All}
+use Rattle.std.proofs.lemmas.List.Elements.{All-head}
 use Rattle.std.proofs.lemmas.List.{length-append}
 use Rattle.std.proofs.lemmas.Bool.{eqb-true, eqb-false, eq-eqb, ne_eqb}
 use Rattle.pad_patch.specs.declared.operation.Operation.{Operation}
@@ -60,6 +61,21 @@ in_front-next first second (third ∷ later) other = elim (front_cases second th
   | apart more is ↦
       ap (in_front first) is ∙ in_front-apart first second (third ∷ later) other ∙ ap (λ os. first ∷ os) (sym is)
 ]
+
+-- an operation removes fewer than 2^32 units
+abbrev pub RemovesFew : Operation → Type 0
+RemovesFew operation = operation.remove < 2 ^ 32
+
+few_by : (operation next : Operation) (later front : List Operation) → IsFront operation next later front → All RemovesFew front → RemovesFew operation
+few_by operation next later front (touching same is) few =
+    let joint = All-head RemovesFew (together operation next) later (subst (All RemovesFew) is few) in
+    omega arith
+few_by operation next later front (apart other is) few = All-head RemovesFew operation (next ∷ later) (subst (All RemovesFew) is few)
+
+-- an operation removes no more than the joined one that it is in
+pub few_of_first : (operation : Operation) (later : List Operation) → All RemovesFew (in_front operation later) → RemovesFew operation
+few_of_first operation [] few = All-head RemovesFew operation [] few
+few_of_first operation (next ∷ later) few = few_by operation next later (in_front operation (next ∷ later)) (front_cases operation next later) few
 
 insertions-in_front : (operation : Operation) (later : List Operation) → insertions (in_front operation later) ≡ operation.insert ++ insertions later
 insertions-in_front operation [] = refl

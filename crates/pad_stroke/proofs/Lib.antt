@@ -4,5 +4,6 @@ pub mod Carrying
 pub mod Stripped
 pub mod Turns
 pub mod MarkLaws
+pub mod JointLaws
 pub mod ShownMarks
 pub mod PlainUnits

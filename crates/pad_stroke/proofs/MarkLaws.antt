@@ -14,14 +14,10 @@ use Rattle.pad_merge.specs.declared.origin.Origin.TheVariants.{First, Second}
 use Rattle.pad_merge.specs.Origin.{origins}
 use Rattle.pad_merge.proofs.Named.{named_at}
 use Rattle.pad_merge.proofs.Places.{stands_of_second}
-use Rattle.pad_transform.specs.Table.{through, transformed_all}
-use Rattle.pad_transform.proofs.Cases.{Moved, behind, within, before, across, last_step}
-use Rattle.pad_transform.proofs.Order.{image_of}
-use Rattle.pad_transform.proofs.Law.{CanApply-moved}
 use Rattle.pad_stroke.specs.declared.mark.Mark.{Mark}
 use Rattle.pad_stroke.specs.InTurn.{no_mark, mark_from, IsNamed, in_turn}
 use Rattle.pad_stroke.specs.Strip.{insertions, same_mark, stays, stripped}
-use Rattle.pad_stroke.specs.Laws.{MarksStandOnce, MarksComeFromEither, SecondMarksStay, StrippedMarks, EndsFitWithin, EndsFitWithRoom}
+use Rattle.pad_stroke.specs.Laws.{MarksStandOnce, MarksComeFromEither, SecondMarksStay, StrippedMarks}
 use Rattle.pad_stroke.proofs.Turns.{all_named, contains_at}
 
 -- the test of two marks
@@ -172,36 +168,3 @@ second_marks_stay first second size mark counted (k, below, is) =
     let there : slice_index_or (map f os) found.0 mark ≡ mark =
     get_or-map f os found.0 (First 0) mark within ∙ ap f read ∙ get_or_default second.marks k no_mark mark below ∙ is in
     (found.0, omega (arith, length-map os f), there)
-
-pub ends_fit_within : EndsFitWithin
-ends_fit_within patch by text both texts short k default below =
-    let moved : Patch = record { ops = transformed_all patch by; before = patch.before } in
-    let can = CanApply-moved moved patch by refl text (λ some. texts) both in
-    let operation = slice_index_or (transformed_all patch by) k default in
-    let stands = slice_get-get_or (transformed_all patch by) k default below in
-    let inside : length (text_after by text) < end_of operation → ⊥ = λ late. can.inside k (operation, stands, late) in
-    omega arith
-
--- the end of an operation moves by no more than what the other one inserts
-end_moved : (a b c : Operation) → Moved a b c → end_of c ≤ end_of a + length b.insert
-end_moved a b c (behind late at same) = omega arith
-end_moved a b c (within after most at same) = omega arith
-end_moved a b c (before early apart at same) = omega arith
-end_moved a b c (across early meets at same) = omega arith
-
-end_through : (by : List Operation) (a c : Operation) → through by a ≡ Some c → end_of c ≤ end_of a + length (insertions by)
-end_through [] a c is = let same : a ≡ c = cc in omega (arith, ap end_of same)
-end_through (b ∷ later) a c is =
-    let step = last_step a b later c is in
-    let earlier = end_through later a step.earlier step.image in
-    let last = end_moved step.earlier b c step.line in
-    omega (arith, length-append b.insert (insertions later))
-
-pub ends_fit_with_room : EndsFitWithRoom
-ends_fit_with_room patch by room k default below =
-    let c = slice_index_or (transformed_all patch by) k default in
-    let found = image_of by.ops patch.ops k c (slice_get-get_or (transformed_all patch by) k default below) in
-    let stands = get_or_from_slice_get patch.ops found.index found.first found.first found.stands in
-    let space = room found.index found.first (slice_get_within patch.ops found.index found.first found.stands) in
-    let end = end_through by.ops found.first c found.image in
-    omega (arith, ap end_of stands)

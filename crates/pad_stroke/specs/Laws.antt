@@ -15,6 +15,7 @@ use Rattle.pad_stroke.specs.Mark.{NoRepeat, marks_of}
 use Rattle.pad_stroke.specs.Work.{Marked}
 use Rattle.pad_stroke.specs.InTurn.{mark_from, in_turn}
 use Rattle.pad_stroke.specs.Edit.{edited}
+use Rattle.pad_stroke.specs.Through.{joined}
 use Rattle.pad_stroke.specs.Strip.{same_mark, stripped}
 
 -- a mark stands once where it stands at all
@@ -60,13 +61,14 @@ EditMarks =
     → (edited work operation stroke size).marks
     ≡ somes (take operation.offset (shown_marks work size) ++ (map Some (marks_of stroke (length operation.insert)) ++ drop (end_of operation) (shown_marks work size)))
 
--- the transformed operations end within 32 bits where the text after the other patch is that short
-abbrev pub EndsFitWithin : Type 0
-EndsFitWithin =
+-- the removals of the transformed operations, joined, fit 32 bits where the text after the other patch is that short
+abbrev pub JointsFitWithin : Type 0
+JointsFitWithin =
     (patch by : Patch) (text : List ℕ) → BothApply patch by text → All (λ (operation : Operation). IsText operation.insert) by.ops → length (text_after by text) < 2 ^ 32
-    → All (λ operation. end_of operation < 2 ^ 32) (transformed_all patch by)
+    → All (λ operation. operation.remove < 2 ^ 32) (joined (transformed_all patch by))
 
 -- or where there is room behind each operation's end for all that the other patch inserts
-abbrev pub EndsFitWithRoom : Type 0
-EndsFitWithRoom =
-    (patch by : Patch) → All (λ (operation : Operation). end_of operation + length (inserted by) < 2 ^ 32) patch.ops → All (λ operation. end_of operation < 2 ^ 32) (transformed_all patch by)
+abbrev pub JointsFitWithRoom : Type 0
+JointsFitWithRoom =
+    (patch by : Patch) → All (λ (operation : Operation). end_of operation + length (inserted by) < 2 ^ 32) patch.ops
+    → All (λ operation. operation.remove < 2 ^ 32) (joined (transformed_all patch by))

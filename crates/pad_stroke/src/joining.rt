@@ -1,6 +1,5 @@
 ghost use Rattle.std.specs.Prelude.{◌≡◌, ◌+◌, ◌^◌, ◌<◌, IfOk};
 ghost use Rattle.std.specs.List.{All};
-ghost use Rattle.pad_patch.specs.Piece.{end_of};
 ghost use Rattle.pad_stroke.specs.Through.{together, joined};
 
 use pad_patch::{Operation, Operations};
@@ -9,7 +8,7 @@ use std::alloc::{AllocError, Global};
 
 /// The operations, those that touch joined.
 pub(crate) fn join_touching(alloc: Global, ops: Operations) -> Result<Operations, AllocError>
-    requires { All (λ operation. end_of operation < 2 ^ 32) ops }
+    requires { All (λ operation. operation.remove < 2 ^ 32) (joined ops) }
     ensures { IfOk result (λ joints. joints ≡ joined ops) }
 {
     let mut left = ops.into_vec().into_iter();
@@ -30,8 +29,7 @@ pub(crate) fn join_touching(alloc: Global, ops: Operations) -> Result<Operations
 
 /// Two operations, of which the first ends where the second starts, as one.
 fn into_one(first: Operation, second: Operation) -> Result<Operation, AllocError>
-    requires touching { end_of first ≡ second.offset }
-    requires small { end_of second < 2 ^ 32 }
+    requires { first.remove + second.remove < 2 ^ 32 }
     ensures { IfOk result (λ one. one ≡ together first second) }
 {
     texts_are_kept_by_cuts();

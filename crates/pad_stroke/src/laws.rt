@@ -1,5 +1,5 @@
 //! Laws over the definitions, each proved once.
-ghost use Rattle.pad_stroke.specs.Laws.{MarksStandOnce, MarksComeFromEither, SecondMarksStay, StrippedMarks, MarksAreShown, EditMarks, EndsFitWithin, EndsFitWithRoom};
+ghost use Rattle.pad_stroke.specs.Laws.{MarksStandOnce, MarksComeFromEither, SecondMarksStay, StrippedMarks, MarksAreShown, EditMarks, JointsFitWithin, JointsFitWithRoom};
 
 /// A mark stands once in a work where it stands at all.
 pub fn marks_stand_once()
@@ -31,12 +31,12 @@ pub fn edit_marks()
     ensures { EditMarks }
 {}
 
-/// The ends of the transformed operations fit where the text after the other patch has fewer than 2^32 units.
-pub fn ends_fit_within()
-    ensures { EndsFitWithin }
+/// The removals of the transformed operations, joined, fit where the text after the other patch has fewer than 2^32 units.
+pub fn joints_fit_within()
+    ensures { JointsFitWithin }
 {}
 
 /// They fit where there is room behind each operation's end for all that the other patch inserts.
-pub fn ends_fit_with_room()
-    ensures { EndsFitWithRoom }
+pub fn joints_fit_with_room()
+    ensures { JointsFitWithRoom }
 {}

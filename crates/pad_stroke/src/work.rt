@@ -2,7 +2,7 @@ ghost use Rattle.std.specs.Prelude.{◌≡◌, ◌≢◌, ℕ, ◌^◌, ◌<◌,
 ghost use Rattle.std.specs.List.{All};
 ghost use Rattle.pad_text.specs.Text.{IsText};
 ghost use Rattle.pad_text.specs.Hash.{document_hash};
-ghost use Rattle.pad_patch.specs.Piece.{end_of, text_after, inserted};
+ghost use Rattle.pad_patch.specs.Piece.{text_after, inserted};
 ghost use Rattle.pad_patch.specs.Misfit.{CanApply};
 ghost use Rattle.pad_merge.specs.Merge.{CanMerge};
 ghost use Rattle.pad_transform.specs.Table.{transformed_all, SumsFitThrough};
@@ -46,12 +46,13 @@ impl Work {
     ghost use Rattle.pad_stroke.specs.Work.{IsWork, empty};
     ghost use Rattle.pad_stroke.specs.InTurn.{in_turn};
     ghost use Rattle.pad_stroke.specs.Edit.{IsAllowed, IsCause, shown_after, typed, edited};
-    ghost use Rattle.pad_stroke.specs.Through.{carried};
+    ghost use Rattle.pad_stroke.specs.Through.{joined, carried};
     ghost use Rattle.pad_stroke.specs.Strip.{thinned, stripped};
 
     /// A work without operations, on a text with this document hash.
     pub fn new(alloc: Global, before: Name) -> Result<Work, AllocError>
-        ensures { IfOk result (λ work. work ≡ empty before) }
+        ensures empty { IfOk result (λ work. work ≡ empty before) }
+        ensures work { IfOk result (λ work. IsWork work) }
     {
         Ok(Work {
             patch: Patch {
@@ -80,6 +81,7 @@ impl Work {
             ≡ shown_after op (text_after self.old.patch (S.units text.now))) }
         ensures applies { OnOk result (CanApply self.new.patch (S.units text.now)) }
         ensures before { self.new.patch.before ≡ self.old.patch.before }
+        ensures work { IsWork self.new }
         ensures err { OnErr result (self.new ≡ self.old) }
 
         // Each refusal comes exactly where its cause does.
@@ -105,6 +107,7 @@ impl Work {
         ensures applies { OnOk result ((text : List ℕ) → length text ≡ len → CanApply of.now.patch text
             → CanApply self.old.patch (text_after of.now.patch text) → CanApply self.new.patch text) }
         ensures before { OnOk result (self.new.patch.before ≡ of.now.patch.before) }
+        ensures work { IsWork self.new }
         ensures err { OnErr result (self.new ≡ self.old) }
     {
         *self = of.followed_by(alloc, &self.patch, self.marks.as_slice(), len)?;
@@ -115,11 +118,12 @@ impl Work {
     /// unit keeps its mark, and operations that touch then are joined. It is unchanged where there is no memory.
     pub fn through(&mut self, alloc: Global, by: &Patch, after: &Name) -> Result<(), AllocError>
         requires sums { All (SumsFitThrough by.now.ops) self.old.patch.ops }
-        requires ends { All (λ operation. end_of operation < 2 ^ 32) (transformed_all self.old.patch by.now) }
+        requires joints { All (λ operation. operation.remove < 2 ^ 32) (joined (transformed_all self.old.patch by.now)) }
         ensures carried { OnOk result (self.new ≡ carried self.old by.now after.now) }
         ensures before { OnOk result (self.new.patch.before ≡ after.now) }
         ensures insertions { OnOk result (inserted self.new.patch ≡ inserted self.old.patch) }
         ensures marks { OnOk result (self.new.marks ≡ self.old.marks) }
+        ensures work { IsWork self.new }
         ensures err { OnErr result (self.new ≡ self.old) }
 
         // For each text to which both patches can be applied.
@@ -145,6 +149,7 @@ impl Work {
         ensures stripped { self.new ≡ stripped self.old of.now }
         ensures applies { (text : List ℕ) → CanApply self.old.patch text → CanApply self.new.patch text }
         ensures before { self.new.patch.before ≡ self.old.patch.before }
+        ensures work { IsWork self.new }
     {
         let alloc = *self.marks.allocator();
         let gone = of.marks.as_slice();
@@ -194,7 +199,8 @@ impl Work {
     /// The text with the work applied.
     fn shown<S: UnitStore>(&self, alloc: Global, text: &S) -> Result<Text, AllocError>
         requires { CanApply self.now.patch (S.units text.now) }
-        ensures { IfOk result (λ shown. shown ≡ text_after self.now.patch (S.units text.now)) }
+        ensures shown { IfOk result (λ shown. shown ≡ text_after self.now.patch (S.units text.now)) }
+        ensures work { IsWork self.now }
     {
         let shown = self.patch.apply(alloc, text)?;
         shown.read(alloc, 0, shown.length())
@@ -217,6 +223,7 @@ impl Work {
         ensures applies { IfOk result (λ work. (text : List ℕ) → length text ≡ len → CanApply self.now.patch text
             → CanApply (typed self.now op stroke).patch (text_after self.now.patch text) → CanApply work.patch text) }
         ensures before { IfOk result (λ work. work.patch.before ≡ self.now.patch.before) }
+        ensures work { IfOk result (λ work. IsWork work) }
     {
         let marks = marks_typed(alloc, stroke, op.insert.len())?;
         let mut ops = Vec::new(alloc);
@@ -247,6 +254,7 @@ impl Work {
         ensures applies { IfOk result (λ work. (text : List ℕ) → length text ≡ len → CanApply self.now.patch text
             → CanApply patch.now (text_after self.now.patch text) → CanApply work.patch text) }
         ensures before { IfOk result (λ work. work.patch.before ≡ self.now.patch.before) }
+        ensures work { IfOk result (λ work. IsWork work) }
     {
         one_origin_each();
         origins_name_units();

@@ -1,12 +1,13 @@
 //! Rows of values that were worked out by hand.
 ghost use Rattle.std.specs.Prelude.{◌≡◌, ◌≢◌, ◌^◌, ◌<◌, length, IsTrue, IfSome, All, Contains};
 ghost use Rattle.pad_text.specs.Hash.{document_hash};
-ghost use Rattle.pad_patch.specs.Piece.{end_of, inserted};
+ghost use Rattle.pad_patch.specs.Piece.{inserted};
 ghost use Rattle.pad_transform.specs.Table.{transformed_all, SumsFitThrough};
 ghost use Rattle.pad_stroke.specs.Mark.{NoneInBoth};
+ghost use Rattle.pad_stroke.specs.Through.{joined};
 
 use super::*;
-use crate::laws::ends_fit_with_room;
+use crate::laws::joints_fit_with_room;
 use pad_patch::VecUnits;
 use pad_transform::laws::sums_fit_with_room;
 use std::test::Fail;
@@ -282,10 +283,10 @@ fn inserted_units(patch: &Patch) -> Option<usize>
 /// Whether there is room for all that the other patch inserts.
 fn has_room(patch: &Patch, by: &Patch) -> bool
     ensures sums { IsTrue result → All (SumsFitThrough by.now.ops) patch.now.ops }
-    ensures ends { IsTrue result → All (λ operation. end_of operation < 2 ^ 32) (transformed_all patch.now by.now) }
+    ensures joints { IsTrue result → All (λ operation. operation.remove < 2 ^ 32) (joined (transformed_all patch.now by.now)) }
 {
     sums_fit_with_room();
-    ends_fit_with_room();
+    joints_fit_with_room();
     let Some(units) = inserted_units(by) else {
         return false;
     };

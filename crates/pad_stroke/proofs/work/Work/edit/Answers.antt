@@ -10,7 +10,7 @@ after_typing-requires-clause-can g c =
     let text = g.S.UnitStore.units c.args.text.now in
     let work = c.args.self.now in
     let shown = text_after work.patch text in
-    let allowed = subst (λ us. IsAllowed us c.args.op) c.in_ok-shown.ensures c.in_ok-allow.ensures.allowed in
+    let allowed = subst (λ us. IsAllowed us c.args.op) c.in_ok-shown.ensures.shown c.in_ok-allow.ensures.allowed in
     subst (CanMerge work.patch (typed work c.args.op c.args.stroke).patch) (sym c.length.ensures)
     (c.applied_patches_merge.ensures work.patch (typed work c.args.op c.args.stroke).patch text c.requires.applies (CanApply-typed work c.args.op c.args.stroke shown allowed))
 
@@ -25,5 +25,5 @@ returns-clause-applies g c =
     let text = g.S.UnitStore.units c.args.text.now in
     let work = c.args.self.now in
     let shown = text_after work.patch text in
-    let allowed = subst (λ us. IsAllowed us c.args.op) c.in_ok-shown.ensures c.in_ok-allow.ensures.allowed in
+    let allowed = subst (λ us. IsAllowed us c.args.op) c.in_ok-shown.ensures.shown c.in_ok-allow.ensures.allowed in
     c.in_ok-self.ensures.applies text (sym c.length.ensures) c.requires.applies (CanApply-typed work c.args.op c.args.stroke shown allowed)

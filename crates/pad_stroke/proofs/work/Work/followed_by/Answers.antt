@@ -25,8 +25,8 @@ marks_are c =
     ∙ ap (λ ms. map (mark_from ms c.args.marks.now) c.as_slice.result.now) c.as_slice-2.ensures.value
     ∙ ap (map (mark_from c.self.inside.marks.items c.args.marks.now)) c.as_slice.ensures
 
-pub invariant_of-result : goal.invariant_of-result
-invariant_of-result c =
+is_work : (c : In_ok-marks) → IsWork (record { patch = c.in_ok-sourced.sourced.patch; marks = c.in_ok-marks.marks.items })
+is_work c =
     let first : Marked = record { patch = c.self.inside.patch; marks = c.self.inside.marks.items } in
     let second : Marked = record { patch = c.args.patch.now; marks = c.args.marks.now } in
     let can = subst (λ (w : Marked). CanMerge w.patch second.patch c.args.len) (sym c.self.view_is) c.requires.can in
@@ -37,6 +37,12 @@ invariant_of-result c =
     subst IsWork (sym is)
     (IsWork-in_turn first second c.args.len c.origins_name_units.ensures c.self.invariant.counted c.requires.counted
     c.one_origin_each.ensures c.no_origin_twice.ensures can normal c.self.invariant.different c.requires.different apart)
+
+pub invariant_of-result : goal.invariant_of-result
+invariant_of-result c = is_work c
+
+pub returns-clause-work : goal.returns-clause-work
+returns-clause-work c = is_work ((goal.at.returns-clause-work c).In_ok-marks)
 
 pub returns-clause-in_turn : goal.returns-clause-in_turn
 returns-clause-in_turn c =

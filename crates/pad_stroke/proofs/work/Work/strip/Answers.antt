@@ -36,6 +36,9 @@ now_is c =
 pub invariant_of-self : goal.invariant_of-self
 invariant_of-self c = subst IsWork (sym (now_is c)) (IsWork-stripped (before c) (other c) c.self.invariant)
 
+pub returns-clause-work : goal.returns-clause-work
+returns-clause-work c = subst IsWork (sym (now_is c)) (IsWork-stripped (before c) (other c) c.self.invariant)
+
 pub returns-clause-stripped : goal.returns-clause-stripped
 returns-clause-stripped c = now_is c ∙ ap (λ w. stripped w (other c)) c.self.view_is ∙ ap (stripped c.args.self.now) c.of.view_is
 

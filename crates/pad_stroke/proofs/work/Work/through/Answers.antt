@@ -27,6 +27,12 @@ invariant_of-self c =
     (IsWork-carried (before c) c.args.by.now c.in_ok-moved.moved c.args.after.now c.self.invariant c.in_ok-moved.ensures.operations c.in_ok-moved.ensures.ordered
     c.in_ok-moved.ensures.insertions)
 
+pub returns-clause-work : goal.returns-clause-work
+returns-clause-work c =
+    subst IsWork (sym (now_is c))
+    (IsWork-carried (before c) c.args.by.now c.in_ok-moved.moved c.args.after.now c.self.invariant c.in_ok-moved.ensures.operations c.in_ok-moved.ensures.ordered
+    c.in_ok-moved.ensures.insertions)
+
 pub returns-clause-carried : goal.returns-clause-carried
 returns-clause-carried c = now_is c ∙ ap (λ w. carried w c.args.by.now c.args.after.now) c.self.view_is
 
