@@ -44,6 +44,25 @@ staying_gone gone units marks kept index mark within marked is_mark gone_too =
     ∙ ap (λ us. take kept units ++ staying gone us (mark ∷ drop (index + 1) marks)) (sym (drop_more units index 0 within))
     ∙ ap (λ ms. take kept units ++ staying gone (drop index units) ms) (sym (next_of marks index mark marked is_mark))
 
+-- one mark more that stays, and is moved to the front
+pub filter_kept : (test : Mark → Bool) (marks : List Mark) (kept index : ℕ) (mark : Mark) → index < length marks → kept ≤ index → mark ≡ slice_index_or marks index mark → test mark ≡ true
+    → take (kept + 1) (set marks kept mark) ++ filter test (drop (index + 1) (set marks kept mark)) ≡ take kept marks ++ filter test (drop index marks)
+filter_kept test marks kept index mark within behind is_mark stay =
+    let rest = filter test (drop (index + 1) marks) in
+    ap (λ ms. ms ++ filter test (drop (index + 1) (set marks kept mark))) (take_more_set marks kept mark (omega arith))
+    ∙ ap (λ ms. (take kept marks ++ mark ∷ []) ++ filter test ms) (drop-set-lt (index + 1) marks kept mark (omega arith))
+    ∙ append_assoc (take kept marks) (mark ∷ []) rest
+    ∙ ap (λ t. take kept marks ++ cond t (mark ∷ rest) rest) (sym stay)
+    ∙ ap (λ ms. take kept marks ++ filter test ms) (sym (next_of marks index mark within is_mark))
+
+-- one mark more that does not
+pub filter_gone : (test : Mark → Bool) (marks : List Mark) (kept index : ℕ) (mark : Mark) → index < length marks → mark ≡ slice_index_or marks index mark → test mark ≡ false
+    → take kept marks ++ filter test (drop (index + 1) marks) ≡ take kept marks ++ filter test (drop index marks)
+filter_gone test marks kept index mark within is_mark gone_too =
+    let rest = filter test (drop (index + 1) marks) in
+    ap (λ t. take kept marks ++ cond t (mark ∷ rest) rest) (sym gone_too)
+    ∙ ap (λ ms. take kept marks ++ filter test ms) (sym (next_of marks index mark within is_mark))
+
 staying_none : (gone : List Mark) (marks : List Mark) → staying gone [] marks ≡ []
 staying_none gone marks = refl
 

@@ -1,6 +1,6 @@
-ghost use Rattle.std.specs.Prelude.{◌≡◌, ◌≤◌, length, filter, All};
+ghost use Rattle.std.specs.Prelude.{◌≡◌, ◌≤◌, length, filter, position, take, All};
 ghost use Rattle.pad_text.specs.Text.{IsText};
-ghost use Rattle.pad_stroke.specs.Strip.{insertions, stays, staying, thinned, is_needed};
+ghost use Rattle.pad_stroke.specs.Strip.{insertions, same_mark, stays, staying, thinned, is_needed};
 
 use crate::mark::Mark;
 use pad_patch::Operation;
@@ -11,7 +11,24 @@ use std::alloc::Global;
 pub(crate) fn strip_marks(marks: &mut Vec<Mark>, gone: &[Mark])
     ensures { marks.new.items ≡ filter (stays gone.now) marks.old.items }
 {
-    marks.retain(|mark| mark_stays(mark, gone));
+    let kept = keep_in_front(marks.as_mut_slice(), gone);
+    marks.truncate(kept);
+}
+
+/// Moves the marks that are not gone to the front, and tells how many they are.
+fn keep_in_front(marks: &mut [Mark], gone: &[Mark]) -> usize
+    ensures { take result marks.new ≡ filter (stays gone.now) marks.old }
+{
+    let mut next = 0;
+    let mut kept = 0;
+    for index in 0..marks.len() {
+        let mark = marks[index];
+        if mark_stays(&mark, gone, &mut next) {
+            marks[kept] = mark;
+            kept += 1;
+        }
+    }
+    kept
 }
 
 /// The operations without the inserted units whose marks are gone, and without those operations that are empty then.
@@ -31,11 +48,32 @@ pub(crate) fn strip_operations(
     ops
 }
 
-/// Whether a mark is not gone.
-fn mark_stays(mark: &Mark, gone: &[Mark]) -> bool
+/// Whether a mark is not gone. The search starts at the place `next` and goes round once. Where it finds the mark,
+/// `next` is then the place behind it: marks that stand in the same order in two works are found at once.
+fn mark_stays(mark: &Mark, gone: &[Mark], next: &mut usize) -> bool
     ensures { result ≡ stays gone.now mark.now }
 {
-    !gone.contains(mark)
+    let (front, back) = gone.split_at(gone.len().min(*next));
+    match place_of(mark, back) {
+        Some(place) => {
+            *next = front.len() + place + 1;
+            false
+        }
+        None => match place_of(mark, front) {
+            Some(place) => {
+                *next = place + 1;
+                false
+            }
+            None => true,
+        },
+    }
+}
+
+/// Where a mark stands first.
+fn place_of(mark: &Mark, marks: &[Mark]) -> Option<usize>
+    ensures { result ≡ position (λ other. same_mark other mark.now) marks.now }
+{
+    marks.iter().position(|other| other == mark)
 }
 
 /// Whether an operation removes or inserts something.
@@ -59,32 +97,45 @@ fn thin(alloc: Global, ops: &mut [Operation], marks: &[Mark], gone: &[Mark])
     ensures { ops.new ≡ thinned gone.now ops.old marks.now }
 {
     let mut left = marks;
+    let mut next = 0;
     for op in ops.iter_mut() {
         let count = op.insert.len();
-        thin_operation(alloc, op, left, gone);
+        thin_operation(alloc, op, left, gone, &mut next);
         left = left.split_at(count).1;
     }
 }
 
 /// Takes the inserted units whose marks are gone out of an operation. It takes no memory: an empty text has none.
-fn thin_operation(alloc: Global, op: &mut Operation, marks: &[Mark], gone: &[Mark])
+fn thin_operation(
+    alloc: Global,
+    op: &mut Operation,
+    marks: &[Mark],
+    gone: &[Mark],
+    next: &mut usize,
+)
     requires marked { length op.old.insert ≤ length marks.now }
     requires text { IsText (staying gone.now op.old.insert marks.now) }
     ensures { op.new ≡ record op.old { insert = staying gone.now op.old.insert marks.now } }
 {
     texts_are_kept_by_cuts();
     let insert = std::mem::replace(&mut op.insert, Text::from_units(Vec::new(alloc)));
-    op.insert = Text::from_units(staying_units(insert.into_units(), marks, gone));
+    op.insert = Text::from_units(staying_units(insert.into_units(), marks, gone, next));
 }
 
-/// The units whose marks are not gone.
-fn staying_units(mut units: Vec<u16>, marks: &[Mark], gone: &[Mark]) -> Vec<u16>
+/// The units whose marks are not gone. The search for their marks starts at the place `next`, and leaves there where it
+/// ends.
+fn staying_units(
+    mut units: Vec<u16>,
+    marks: &[Mark],
+    gone: &[Mark],
+    next: &mut usize,
+) -> Vec<u16>
     requires { length units.items ≤ length marks.now }
     ensures { result.items ≡ staying gone.now units.items marks.now }
 {
     let mut kept = 0;
     for index in 0..units.len() {
-        if mark_stays(&marks[index], gone) {
+        if mark_stays(&marks[index], gone, next) {
             units[kept] = units[index];
             kept += 1;
         }
