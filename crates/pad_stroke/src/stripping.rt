@@ -124,12 +124,7 @@ fn thin_operation(
 
 /// The units whose marks are not gone. The search for their marks starts at the place `next`, and leaves there where it
 /// ends.
-fn staying_units(
-    mut units: Vec<u16>,
-    marks: &[Mark],
-    gone: &[Mark],
-    next: &mut usize,
-) -> Vec<u16>
+fn staying_units(mut units: Vec<u16>, marks: &[Mark], gone: &[Mark], next: &mut usize) -> Vec<u16>
     requires { length units.items ≤ length marks.now }
     ensures { result.items ≡ staying gone.now units.items marks.now }
 {

@@ -2,13 +2,15 @@
 ghost use Rattle.std.specs.Prelude.{◌≡◌, ◌≢◌, ◌^◌, ◌<◌, length, IsTrue, IfSome, All, Contains};
 ghost use Rattle.pad_text.specs.Hash.{document_hash};
 ghost use Rattle.pad_patch.specs.Piece.{inserted};
+ghost use Rattle.pad_patch.specs.declared.misfit.Misfit.TheVariants.{TooLong};
+ghost use Rattle.pad_patch.specs.Misfit.{CanApply};
 ghost use Rattle.pad_transform.specs.Table.{transformed_all, SumsFitThrough};
 ghost use Rattle.pad_stroke.specs.Mark.{NoneInBoth};
 ghost use Rattle.pad_stroke.specs.Through.{joined};
 
 use super::*;
 use crate::laws::joints_fit_with_room;
-use pad_patch::VecUnits;
+use pad_patch::{Misfit, VecUnits};
 use pad_transform::laws::sums_fit_with_room;
 use std::test::Fail;
 
@@ -64,25 +66,46 @@ fn word_of(edited: Result<(), EditRefused>) -> &'static str {
     }
 }
 
-/// Edits a work on a text with this document hash, and tells how it went.
+/// Whether a patch was for a text that is too long after it.
+fn is_too_long(misfit: Misfit) -> bool
+    ensures { IsTrue result → misfit ≡ TooLong }
+{
+    match misfit {
+        Misfit::TooLong => true,
+        _ => false,
+    }
+}
+
+/// Whether a patch can be applied to a text with this document hash, also where the text is too long after it.
+fn can_apply<S: UnitStore>(patch: &Patch, text: &S, hash: &Name) -> bool
+    requires { hash.now ≡ document_hash (S.units text.now) }
+    ensures { IsTrue result → CanApply patch.now (S.units text.now) }
+{
+    match patch.fits(text, hash) {
+        Ok(()) => true,
+        Err(misfit) => is_too_long(misfit),
+    }
+}
+
+/// Edits a work on a text with this document hash, where the conditions hold, and tells how it went.
 fn edit<S: UnitStore>(
     alloc: Global,
     work: &mut Work,
     text: &S,
     hash: &Name,
-    row: Row,
+    op: Operation,
     stroke: u64,
-) -> Result<&'static str, AllocError>
-    requires hash { hash.now ≡ document_hash (S.units text.now) }
-    requires before { work.old.patch.before ≡ hash.now }
-    ensures { work.new.patch.before ≡ work.old.patch.before }
+) -> &'static str
+    requires { hash.now ≡ document_hash (S.units text.now) }
 {
-    let op = operation_of(alloc, row)?;
-    let applies = work.patch.fits(text, hash).is_ok();
-    if applies && text.length() < 1_000_000 && is_new(work, stroke) {
-        return Ok(word_of(work.edit(alloc, text, op, stroke)));
+    if work.patch.before == *hash
+        && text.length() < 1_000_000
+        && can_apply(&work.patch, text, hash)
+        && is_new(work, stroke)
+    {
+        return word_of(work.edit(alloc, text, op, stroke));
     }
-    Ok("unmet ")
+    "unmet "
 }
 
 /// A new work on this text after edits, each with the next stroke from 1 on, and how they went.
@@ -97,7 +120,8 @@ fn edited<S: UnitStore>(
     let mut stroke = 0u64;
     for row in rows {
         stroke = stroke.saturating_add(1);
-        told.push_str(edit(alloc, &mut work, text, &hash, *row, stroke)?)?;
+        let op = operation_of(alloc, *row)?;
+        told.push_str(edit(alloc, &mut work, text, &hash, op, stroke))?;
     }
     Ok((told, work))
 }
@@ -160,10 +184,34 @@ fn a_text_that_is_as_long_as_it_may_be_does_not_grow(rt: HostRuntime) -> Result<
 #[test]
 fn a_text_that_is_too_long_may_shrink(rt: HostRuntime) -> Result<(), Fail> {
     let alloc = rt.alloc();
-    let shown = Text::from_str(alloc, letters(alloc, 262_146)?.as_str())?;
-    assert!(rt; allow(&shown, &operation_of(alloc, (0, 1, "bc"))?).is_err());
-    assert!(rt; allow(&shown, &operation_of(alloc, (0, 1, "b"))?).is_ok());
-    assert!(rt; allow(&shown, &operation_of(alloc, (0, 1, ""))?).is_ok());
+    let text = store_of(alloc, "")?;
+    let mut work = Work::new(alloc, text.hash(alloc)?)?;
+    let op = Operation {
+        offset: 0,
+        remove: 0,
+        insert: Text::from_str(alloc, letters(alloc, 262_144)?.as_str())?,
+    };
+    let hash = text.hash(alloc)?;
+    assert_eq!(rt; edit(alloc, &mut work, &text, &hash, op, 1), "");
+    // Another's `b` comes: the shown text has a unit too many, and may not grow.
+    let text = store_of(alloc, "b")?;
+    let hash = text.hash(alloc)?;
+    assert!(rt; through(alloc, &mut work, (0, 0, "b"), &hash)?);
+    let rows: [(Row, &str); 6] = [
+        ((0, 0, "c"), "TooLong "),
+        ((0, 1, "cd"), "TooLong "),
+        ((0, 1, ""), ""),
+        ((0, 0, "c"), "TooLong "),
+        ((262_143, 1, ""), ""),
+        ((0, 0, "c"), ""),
+    ];
+    let mut stroke = 1u64;
+    for (row, word) in &rows {
+        stroke = stroke.saturating_add(1);
+        let op = operation_of(alloc, *row)?;
+        assert_eq!(rt; edit(alloc, &mut work, &text, &hash, op, stroke), *word);
+    }
+    assert_eq!(rt; inserted_units(&work.patch), Some(262_144));
     Ok(())
 }
 
@@ -294,7 +342,7 @@ fn has_room(patch: &Patch, by: &Patch) -> bool
 }
 
 /// Carries a work over a patch of this operation, where there is room, and tells whether there is.
-fn through(alloc: Global, work: &mut Work, row: Row) -> Result<bool, AllocError> {
+fn through(alloc: Global, work: &mut Work, row: Row, after: &Name) -> Result<bool, AllocError> {
     let mut ops = Vec::new(alloc);
     ops.push(operation_of(alloc, row)?)?;
     let by = Patch {
@@ -302,7 +350,7 @@ fn through(alloc: Global, work: &mut Work, row: Row) -> Result<bool, AllocError>
         before: Name::BASE,
     };
     if has_room(&work.patch, &by) {
-        work.through(alloc, &by, &Name::BASE)?;
+        work.through(alloc, &by, after)?;
         return Ok(true);
     }
     Ok(false)
@@ -318,7 +366,7 @@ fn work_is_taken_back_and_carried(rt: HostRuntime) -> Result<(), Fail> {
     assert!(rt; take_back(alloc, &mut work, &sent, &text)?);
     for row in [(0, 0, "abc"), (3, 0, "!"), (3, 1, ""), (0, 3, "")] {
         assert_eq!(rt; row_of(alloc, &work)?.as_str(), "[0,0,hoi](1,0)(2,0)(1,1)");
-        assert!(rt; through(alloc, &mut work, row)?);
+        assert!(rt; through(alloc, &mut work, row, &Name::BASE)?);
     }
     assert_eq!(rt; row_of(alloc, &work)?.as_str(), "[0,0,hoi](1,0)(2,0)(1,1)");
     Ok(())
@@ -330,7 +378,7 @@ fn operations_that_come_to_touch_are_joined(rt: HostRuntime) -> Result<(), Fail>
     let rows = [(1, 1, "x"), (3, 1, "y")];
     let (_, mut work) = edited(alloc, &store_of(alloc, "abcde")?, &rows)?;
     assert_eq!(rt; row_of(alloc, &work)?.as_str(), "[1,1,x][3,1,y](1,0)(2,0)");
-    assert!(rt; through(alloc, &mut work, (2, 1, ""))?);
+    assert!(rt; through(alloc, &mut work, (2, 1, ""), &Name::BASE)?);
     assert_eq!(rt; row_of(alloc, &work)?.as_str(), "[1,2,xy](1,0)(2,0)");
     Ok(())
 }
