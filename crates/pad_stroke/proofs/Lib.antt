@@ -7,4 +7,5 @@ pub mod Turns
 pub mod MarkLaws
 pub mod JointLaws
 pub mod ShownMarks
+pub mod WholePairs
 pub mod PlainUnits

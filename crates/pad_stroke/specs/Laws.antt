@@ -16,7 +16,7 @@ use Rattle.pad_stroke.specs.Work.{Marked}
 use Rattle.pad_stroke.specs.InTurn.{mark_from, in_turn}
 use Rattle.pad_stroke.specs.Edit.{edited}
 use Rattle.pad_stroke.specs.Through.{joined}
-use Rattle.pad_stroke.specs.Strip.{same_mark, stripped}
+use Rattle.pad_stroke.specs.Strip.{same_mark, KeepsPairs, thinned, stripped}
 
 -- a mark stands once where it stands at all
 abbrev pub MarksStandOnce : Type 0
@@ -40,6 +40,12 @@ SecondMarksStay =
 -- a stripped work has the marks that the other work has not
 abbrev pub StrippedMarks : Type 0
 StrippedMarks = (work of : Marked) (mark : Mark) → Contains (stripped work of).marks mark ↔ (Contains work.marks mark × ¬ (Contains of.marks mark))
+
+-- what stays of each insertion of a work is a text, where each insertion is one and each pair stays or goes as a whole
+abbrev pub PairsStayWhole : Type 0
+PairsStayWhole =
+    (work of : Marked) → length work.marks ≡ length (inserted work.patch) → All (λ (operation : Operation). IsText operation.insert) work.patch.ops
+    → KeepsPairs of.marks (inserted work.patch) work.marks → All (λ (operation : Operation). IsText operation.insert) (thinned of.marks work.patch.ops work.marks)
 
 -- the marks that are there
 abbrev pub somes : {A : Type 0} → List (Option A) → List A

@@ -1,9 +1,11 @@
 -- A work without the units that another one inserts.
-use Rattle.std.specs.Prelude.{ℕ, ◌==◌, ◌&&◌, ◌||◌, not, nat_lt, if◌then◌else◌, Bool, List, [], ◌∷◌, length, drop, filter}
+use Rattle.std.specs.Prelude.{◌≡◌, ℕ, ◌+◌, ◌==◌, ◌&&◌, ◌||◌, not, nat_lt, if◌then◌else◌, Bool, List, [], ◌∷◌, length, drop, filter, slice_index_or}
 use Rattle.std.specs.List.{flat_map, list_any}
+use Rattle.pad_text.specs.Text.{CutsPair}
 use Rattle.pad_patch.specs.declared.operation.Operation.{Operation}
 use Rattle.pad_stroke.specs.declared.mark.Mark.{Mark}
 use Rattle.pad_stroke.specs.Work.{Marked}
+use Rattle.pad_stroke.specs.InTurn.{no_mark}
 
 -- the marks have the same stroke and the same index
 abbrev pub same_mark : Mark → Mark → Bool
@@ -18,6 +20,11 @@ abbrev pub staying : List Mark → List ℕ → List Mark → List ℕ
 staying gone [] marks = []
 staying gone (unit ∷ units) [] = []
 staying gone (unit ∷ units) (mark ∷ marks) = if stays gone mark then unit ∷ staying gone units marks else staying gone units marks
+
+-- the two units of each pair both stay or both do not, where each unit has its mark
+abbrev pub KeepsPairs : List Mark → List ℕ → List Mark → Type 0
+KeepsPairs gone units marks =
+    (place : ℕ) → CutsPair units (place + 1) → stays gone (slice_index_or marks place no_mark) ≡ stays gone (slice_index_or marks (place + 1) no_mark)
 
 -- the insertions of operations, joined
 abbrev pub insertions : List Operation → List ℕ

@@ -1,5 +1,5 @@
 //! Laws over the definitions, each proved once.
-ghost use Rattle.pad_stroke.specs.Laws.{MarksStandOnce, MarksComeFromEither, SecondMarksStay, StrippedMarks, MarksAreShown, EditMarks, JointsFitWithin, JointsFitWithRoom};
+ghost use Rattle.pad_stroke.specs.Laws.{MarksStandOnce, MarksComeFromEither, SecondMarksStay, StrippedMarks, PairsStayWhole, MarksAreShown, EditMarks, JointsFitWithin, JointsFitWithRoom};
 
 /// A mark stands once in a work where it stands at all.
 pub fn marks_stand_once()
@@ -19,6 +19,11 @@ pub fn second_marks_stay()
 /// A stripped work has the marks that the other work has not.
 pub fn stripped_marks()
     ensures { StrippedMarks }
+{}
+
+/// What stays of each insertion of a work is a text, where each pair stays or goes as a whole.
+pub fn pairs_stay_whole()
+    ensures { PairsStayWhole }
 {}
 
 /// Each mark of a work is the mark of a unit of the shown text, in order.
