@@ -6,6 +6,7 @@ pub mod Stripped
 pub mod Turns
 pub mod MarkLaws
 pub mod JointLaws
+pub mod JoinedText
 pub mod ShownMarks
 pub mod WholePairs
 pub mod PlainUnits

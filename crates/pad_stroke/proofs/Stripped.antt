@@ -6,7 +6,7 @@ use Rattle.std.proofs.lemmas.List.{take_more_set, drop-set-lt, drop_more, nil_fr
 use Rattle.std.proofs.lemmas.List.Kept.{AllPairs-filter}
 use Rattle.pad_text.specs.Text.{CutsPair}
 use Rattle.pad_patch.specs.declared.operation.Operation.{Operation}
-use Rattle.pad_patch.specs.Piece.{end_of}
+use Rattle.pad_patch.specs.Piece.{end_of, inserted}
 use Rattle.pad_patch.specs.Misfit.{CanApply}
 use Rattle.pad_stroke.specs.declared.mark.Mark.{Mark}
 use Rattle.pad_stroke.specs.Strip.{stays, staying, insertions, thinned, is_needed, stripped}
@@ -174,6 +174,13 @@ IsWork-stripped work of is_work =
           ∙ length-staying gone (insertions work.patch.ops) work.marks (sym is_work.counted));
       different = AllPairs-filter (λ earlier later. earlier ≢ later) (stays gone) work.marks is_work.different;
     }
+
+-- it inserts the units that stay
+pub inserted-stripped : (work of : Marked) → IsWork work → inserted (stripped work of).patch ≡ staying of.marks (inserted work.patch) work.marks
+unfolding stripped
+inserted-stripped work of is_work =
+    let enough : length (insertions work.patch.ops) ≤ length work.marks = let counted = is_work.counted in omega arith in
+    insertions-filter (thinned of.marks work.patch.ops work.marks) ∙ insertions-thinned of.marks work.patch.ops work.marks enough
 
 -- the fields of a work that was stripped
 pub stripped_is : (work of : Marked) (ops : List Operation) (marks : List Mark) → ops ≡ filter is_needed (thinned of.marks work.patch.ops work.marks) → marks ≡ filter (stays of.marks) work.marks

@@ -67,6 +67,10 @@ EditMarks =
     → (edited work operation stroke size).marks
     ≡ somes (take operation.offset (shown_marks work size) ++ (map Some (marks_of stroke (length operation.insert)) ++ drop (end_of operation) (shown_marks work size)))
 
+-- joining operations that touch changes nothing of the text after them
+abbrev pub JoiningChangesNothing : Type 0
+JoiningChangesNothing = (patch : Patch) (text : List ℕ) → text_after (record patch { ops = joined patch.ops }) text ≡ text_after patch text
+
 -- the removals of the transformed operations, joined, fit 32 bits where the text after the other patch is that short
 abbrev pub JointsFitWithin : Type 0
 JointsFitWithin =

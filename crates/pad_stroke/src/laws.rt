@@ -1,5 +1,5 @@
 //! Laws over the definitions, each proved once.
-ghost use Rattle.pad_stroke.specs.Laws.{MarksStandOnce, MarksComeFromEither, SecondMarksStay, StrippedMarks, PairsStayWhole, MarksAreShown, EditMarks, JointsFitWithin, JointsFitWithRoom};
+ghost use Rattle.pad_stroke.specs.Laws.{MarksStandOnce, MarksComeFromEither, SecondMarksStay, StrippedMarks, PairsStayWhole, MarksAreShown, EditMarks, JoiningChangesNothing, JointsFitWithin, JointsFitWithRoom};
 
 /// A mark stands once in a work where it stands at all.
 pub fn marks_stand_once()
@@ -34,6 +34,11 @@ pub fn marks_are_shown()
 /// An edit puts its marks in place of those of the shown units that it removes.
 pub fn edit_marks()
     ensures { EditMarks }
+{}
+
+/// Joining operations that touch changes nothing of the text after them.
+pub fn joining_changes_nothing()
+    ensures { JoiningChangesNothing }
 {}
 
 /// The removals of the transformed operations, joined, fit where the text after the other patch has fewer than 2^32 units.

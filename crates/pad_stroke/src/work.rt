@@ -47,7 +47,7 @@ impl Work {
     ghost use Rattle.pad_stroke.specs.InTurn.{in_turn};
     ghost use Rattle.pad_stroke.specs.Edit.{IsAllowed, IsCause, shown_after, typed, edited};
     ghost use Rattle.pad_stroke.specs.Through.{joined, carried};
-    ghost use Rattle.pad_stroke.specs.Strip.{thinned, stripped};
+    ghost use Rattle.pad_stroke.specs.Strip.{staying, thinned, stripped};
 
     /// A work without operations, on a text with this document hash.
     pub fn new(alloc: Global, before: Name) -> Result<Work, AllocError>
@@ -147,6 +147,7 @@ impl Work {
     pub fn strip(&mut self, of: &Work)
         requires { All (λ operation. IsText operation.insert) (thinned of.now.marks self.old.patch.ops self.old.marks) }
         ensures stripped { self.new ≡ stripped self.old of.now }
+        ensures units { inserted self.new.patch ≡ staying of.now.marks (inserted self.old.patch) self.old.marks }
         ensures applies { (text : List ℕ) → CanApply self.old.patch text → CanApply self.new.patch text }
         ensures before { self.new.patch.before ≡ self.old.patch.before }
         ensures work { IsWork self.new }

@@ -2,10 +2,11 @@ use Rattle.std.proofs.Common.{◌≡◌, length, filter, sym, ◌∙◌, ap, sub
 use Rattle.std.specs.List.{All}
 use Rattle.pad_text.specs.Text.{IsText}
 use Rattle.pad_patch.specs.declared.operation.Operation.{Operation}
+use Rattle.pad_patch.specs.Piece.{inserted}
 use Rattle.pad_patch.specs.Misfit.{CanApply}
-use Rattle.pad_stroke.specs.Strip.{insertions, stays, is_needed, thinned, stripped}
+use Rattle.pad_stroke.specs.Strip.{insertions, stays, staying, is_needed, thinned, stripped}
 use Rattle.pad_stroke.specs.Work.{Marked, IsWork}
-use Rattle.pad_stroke.proofs.Stripped.{IsWork-stripped, CanApply-stripped, stripped_is}
+use Rattle.pad_stroke.proofs.Stripped.{IsWork-stripped, inserted-stripped, CanApply-stripped, stripped_is}
 use Rattle.pad_stroke.proofs.work.Work.strip.Goals as goal
 use Rattle.pad_stroke.proofs.work.Work.strip.Goals.{After-strip_marks}
 
@@ -41,6 +42,13 @@ returns-clause-work c = subst IsWork (sym (now_is c)) (IsWork-stripped (before c
 
 pub returns-clause-stripped : goal.returns-clause-stripped
 returns-clause-stripped c = now_is c ∙ ap (λ w. stripped w (other c)) c.self.view_is ∙ ap (stripped c.args.self.now) c.of.view_is
+
+pub returns-clause-units : goal.returns-clause-units
+returns-clause-units c =
+    ap (λ (w : Marked). inserted w.patch) (now_is c)
+    ∙ inserted-stripped (before c) (other c) c.self.invariant
+    ∙ ap (λ (w : Marked). staying (other c).marks (inserted w.patch) w.marks) c.self.view_is
+    ∙ ap (λ (w : Marked). staying w.marks (inserted c.args.self.now.patch) c.args.self.now.marks) c.of.view_is
 
 pub returns-clause-applies : goal.returns-clause-applies
 returns-clause-applies c text can =
