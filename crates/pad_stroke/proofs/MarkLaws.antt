@@ -15,7 +15,7 @@ use Rattle.pad_merge.specs.Origin.{origins}
 use Rattle.pad_merge.proofs.Named.{named_at}
 use Rattle.pad_merge.proofs.Places.{stands_of_second}
 use Rattle.pad_stroke.specs.declared.mark.Mark.{Mark}
-use Rattle.pad_stroke.specs.InTurn.{no_mark, mark_from, IsNamed, in_turn}
+use Rattle.pad_stroke.specs.InTurn.{no_mark, mark_from, NamesUnit, in_turn}
 use Rattle.pad_stroke.specs.Strip.{insertions, same_mark, stays, stripped}
 use Rattle.pad_stroke.specs.Laws.{MarksStandOnce, MarksComeFromEither, SecondMarksStay, StrippedMarks}
 use Rattle.pad_stroke.proofs.Turns.{all_named, contains_at}
@@ -143,7 +143,7 @@ marks_stand_once [] mark different = inr (none_in mark, refl)
 marks_stand_once (x ∷ xs) mark different =
     once_by x xs mark different (marks_stand_once xs mark (different_tail x xs different)) (same_mark x mark) refl
 
-comes_by : (first second : List Mark) (origin : Origin) (mark : Mark) → IsNamed (length first) (length second) origin → mark_from first second origin ≡ mark → Contains first mark ⊎ Contains second mark
+comes_by : (first second : List Mark) (origin : Origin) (mark : Mark) → NamesUnit (length first) (length second) origin → mark_from first second origin ≡ mark → Contains first mark ⊎ Contains second mark
 comes_by first second (First place) mark named is = inl (subst (Contains first) is (contains_at first place named))
 comes_by first second (Second place) mark named is = inr (subst (Contains second) is (contains_at second place named))
 

@@ -18,7 +18,7 @@ use Rattle.pad_merge.specs.Origin.{origins, named_unit}
 use Rattle.pad_merge.specs.Laws.{OneOriginEach, OriginsNameUnits, NoOriginTwice}
 use Rattle.pad_stroke.specs.declared.mark.Mark.{Mark}
 use Rattle.pad_stroke.specs.Mark.{NoRepeat, NoneInBoth, marks_of}
-use Rattle.pad_stroke.specs.InTurn.{no_mark, mark_from, IsNamed, in_turn}
+use Rattle.pad_stroke.specs.InTurn.{no_mark, mark_from, NamesUnit, in_turn}
 use Rattle.pad_stroke.specs.Work.{Marked, IsWork}
 use Rattle.pad_stroke.specs.Edit.{shown_after, IsAllowed, typed}
 
@@ -37,7 +37,7 @@ contains_at marks i within = (i, within, get_or_default marks i (slice_index_or 
 
 -- units with the same mark come from the same place
 same_origin : (first second : List Mark) → NoRepeat first → NoRepeat second → NoneInBoth first second → (a b : Origin)
-    → IsNamed (length first) (length second) a → IsNamed (length first) (length second) b → mark_from first second a ≡ mark_from first second b → a ≡ b
+    → NamesUnit (length first) (length second) a → NamesUnit (length first) (length second) b → mark_from first second a ≡ mark_from first second b → a ≡ b
 same_origin first second once_first once_second apart (First i) (First j) named_a named_b same = ap First (one_place first i j once_first named_a named_b same)
 same_origin first second once_first once_second apart (First i) (Second j) named_a named_b same =
     absurd (apart (slice_index_or first i no_mark) (contains_at first i named_a) (subst (Contains second) (sym same) (contains_at second j named_b)))
@@ -46,14 +46,14 @@ same_origin first second once_first once_second apart (Second i) (First j) named
 same_origin first second once_first once_second apart (Second i) (Second j) named_a named_b same = ap Second (one_place second i j once_second named_a named_b same)
 
 named_by : (first second : Patch) (a b : ℕ) (origin : Origin) (unit : ℕ) → a ≡ length (inserted first) → b ≡ length (inserted second)
-    → named_unit first second origin ≡ Some unit → IsNamed a b origin
+    → named_unit first second origin ≡ Some unit → NamesUnit a b origin
 named_by first second a b (First place) unit count_a count_b is = let within = slice_get_within (inserted first) place unit is in omega arith
 named_by first second a b (Second place) unit count_a count_b is = let within = slice_get_within (inserted second) place unit is in omega arith
 
 -- one work and then marked operations
 module _ (first second : Marked) (size : ℕ) (names : OriginsNameUnits) (counted_first : length first.marks ≡ length (inserted first.patch))
     (counted_second : length second.marks ≡ length (inserted second.patch)) where
-  pub all_named : All (IsNamed (length first.marks) (length second.marks)) (origins first.patch second.patch size)
+  pub all_named : All (NamesUnit (length first.marks) (length second.marks)) (origins first.patch second.patch size)
   all_named k default below =
       let found = names first.patch second.patch size k (slice_index_or (origins first.patch second.patch size) k default)
       (slice_get-get_or (origins first.patch second.patch size) k default below) in

@@ -17,9 +17,9 @@ mark_from first second (First place) = slice_index_or first place no_mark
 mark_from first second (Second place) = slice_index_or second place no_mark
 
 -- the origin names a unit, where the first patch inserts so many units and the second one so many
-abbrev pub IsNamed : ℕ → ℕ → Origin → Type 0
-IsNamed first second (First place) = place < first
-IsNamed first second (Second place) = place < second
+abbrev pub NamesUnit : ℕ → ℕ → Origin → Type 0
+NamesUnit first second (First place) = place < first
+NamesUnit first second (Second place) = place < second
 
 -- the merge of the patches, each unit with the mark that it had; the first one is on a text of `size` units
 unfoldable pub in_turn : Marked → Marked → ℕ → Marked

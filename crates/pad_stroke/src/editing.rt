@@ -1,6 +1,7 @@
 ghost use Rattle.std.specs.Prelude.{◌≡◌, ◌+◌, ◌<◌, ◌↔◌, length, map, All, IfOk, IfErr, IsTrue, OnOk};
+ghost use Rattle.pad_patch.specs.Misfit.{longest_text};
 ghost use Rattle.pad_stroke.specs.Mark.{marks_of};
-ghost use Rattle.pad_stroke.specs.InTurn.{mark_from, IsNamed};
+ghost use Rattle.pad_stroke.specs.InTurn.{mark_from, NamesUnit};
 ghost use Rattle.pad_stroke.specs.Edit.{IsAllowed, IsCause};
 
 use crate::edit_refused::EditRefused;
@@ -33,7 +34,7 @@ pub(crate) fn allow(shown: &Text, op: &Operation) -> Result<(), EditRefused>
 
 /// Whether a text is too long with so many units kept and so many inserted, and longer than with those removed.
 fn grows_too_long(kept: usize, removed: usize, inserted: usize) -> bool
-    ensures { IsTrue result ↔ ((262144 < kept + inserted) × (removed < inserted)) }
+    ensures { IsTrue result ↔ ((longest_text < kept + inserted) × (removed < inserted)) }
 {
     removed < inserted && (LONGEST_TEXT < kept || LONGEST_TEXT - kept < inserted)
 }
@@ -59,7 +60,7 @@ pub(crate) fn marks_from(
     first: &[Mark],
     second: &[Mark],
 ) -> Result<Vec<Mark>, AllocError>
-    requires { All (IsNamed (length first.now) (length second.now)) from.now }
+    requires { All (NamesUnit (length first.now) (length second.now)) from.now }
     ensures { IfOk result (λ marks. marks.items ≡ map (mark_from first.now second.now) from.now) }
 {
     let mut marks = Vec::new(alloc);
@@ -71,7 +72,7 @@ pub(crate) fn marks_from(
 
 /// The mark of a unit that comes from one of two works with these marks.
 fn mark_at(origin: Origin, first: &[Mark], second: &[Mark]) -> Mark
-    requires { IsNamed (length first.now) (length second.now) origin }
+    requires { NamesUnit (length first.now) (length second.now) origin }
     ensures { result ≡ mark_from first.now second.now origin }
 {
     match origin {

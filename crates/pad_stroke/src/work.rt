@@ -64,7 +64,7 @@ impl Work {
     }
 
     /// Merges an operation on the shown text, which is the text with the work applied, into the work. The units that it
-    /// inserts get the marks of this stroke, from index 0. It is unchanged when refused.
+    /// inserts get the marks of this stroke, from index 0. The work is unchanged when it is refused.
     pub fn edit<S: UnitStore>(
         &mut self,
         alloc: Global,
@@ -96,7 +96,7 @@ impl Work {
     }
 
     /// Takes back work that was done before this one: it becomes that work, on a text of `len` units, and then this one.
-    /// It is unchanged where there is no memory.
+    /// The work is unchanged where there is no memory.
     pub fn take_back(&mut self, alloc: Global, of: &Work, len: usize) -> Result<(), AllocError>
         requires small { len < 2 ^ 32 }
         requires can { CanMerge of.now.patch self.old.patch len }
@@ -115,7 +115,7 @@ impl Work {
     }
 
     /// Carries the work over a patch on the same text; `after` is the document hash of the text after that patch. Each
-    /// unit keeps its mark, and operations that touch then are joined. It is unchanged where there is no memory.
+    /// unit keeps its mark, and operations that touch then are joined. The work is unchanged where there is no memory.
     pub fn through(&mut self, alloc: Global, by: &Patch, after: &Name) -> Result<(), AllocError>
         requires sums { All (SumsFitThrough by.now.ops) self.old.patch.ops }
         requires joints { All (λ operation. operation.remove < 2 ^ 32) (joined (transformed_all self.old.patch by.now)) }

@@ -5,7 +5,7 @@ use Rattle.pad_patch.specs.Misfit.{CanApply}
 use Rattle.std.specs.Prelude.{All}
 use Rattle.pad_merge.specs.Merge.{merged, CanMerge, IsNormal}
 use Rattle.pad_stroke.specs.Mark.{NoneInBoth}
-use Rattle.pad_stroke.specs.InTurn.{mark_from, IsNamed, in_turn}
+use Rattle.pad_stroke.specs.InTurn.{mark_from, NamesUnit, in_turn}
 use Rattle.pad_stroke.specs.Work.{Marked, IsWork}
 use Rattle.pad_stroke.proofs.Turns.{all_named, IsWork-in_turn, in_turn_is}
 use Rattle.pad_stroke.proofs.work.Work.followed_by.Goals as goal
@@ -16,8 +16,8 @@ marks_from-requires c =
     let first : Marked = record { patch = c.self.inside.patch; marks = c.self.inside.marks.items } in
     let second : Marked = record { patch = c.args.patch.now; marks = c.args.marks.now } in
     let named = all_named first second c.args.len c.origins_name_units.ensures c.self.invariant.counted c.requires.counted in
-    let there = subst (All (IsNamed (length first.marks) (length second.marks))) (sym (c.as_slice.ensures ∙ c.in_ok-sourced.ensures.from)) named in
-    subst (λ ms. All (IsNamed (length ms) (length second.marks)) c.as_slice.result.now) (sym c.as_slice-2.ensures.value) there
+    let there = subst (All (NamesUnit (length first.marks) (length second.marks))) (sym (c.as_slice.ensures ∙ c.in_ok-sourced.ensures.from)) named in
+    subst (λ ms. All (NamesUnit (length ms) (length second.marks)) c.as_slice.result.now) (sym c.as_slice-2.ensures.value) there
 
 marks_are : (c : In_ok-marks) → c.in_ok-marks.marks.items ≡ map (mark_from c.self.inside.marks.items c.args.marks.now) c.in_ok-sourced.sourced.from
 marks_are c =
