@@ -87,7 +87,7 @@ stays_by x gone mark rest false other told contains = elim (head_or_tail x gone 
   | inr later ↦ rest told later
 ]
 
-stays_true : (gone : List Mark) (mark : Mark) → stays gone mark ≡ true → ¬ (Contains gone mark)
+pub stays_true : (gone : List Mark) (mark : Mark) → stays gone mark ≡ true → ¬ (Contains gone mark)
 stays_true [] mark is contains = none_in mark contains
 stays_true (x ∷ gone) mark is contains = stays_by x gone mark (stays_true gone mark) (same_mark x mark) refl is contains
 

@@ -166,6 +166,7 @@ impl Work {
     /// A copy of the patch.
     pub fn patch(&self, alloc: Global) -> Result<Patch, AllocError>
         ensures patch { IfOk result (λ patch. patch ≡ self.now.patch) }
+        ensures texts { OnOk result (All (λ operation. IsText operation.insert) self.now.patch.ops) }
         ensures work { IsWork self.now }
     {
         copy_of(alloc, &self.patch)
@@ -173,7 +174,8 @@ impl Work {
 
     /// A copy of the work.
     pub fn copy(&self, alloc: Global) -> Result<Work, AllocError>
-        ensures { IfOk result (λ copy. copy ≡ self.now) }
+        ensures copy { IfOk result (λ copy. copy ≡ self.now) }
+        ensures work { IsWork self.now }
     {
         Ok(Work {
             patch: copy_of(alloc, &self.patch)?,
@@ -272,7 +274,8 @@ impl Work {
 
 /// A copy of a patch.
 fn copy_of(alloc: Global, patch: &Patch) -> Result<Patch, AllocError>
-    ensures { IfOk result (λ copy. copy ≡ patch.now) }
+    ensures copy { IfOk result (λ copy. copy ≡ patch.now) }
+    ensures texts { OnOk result (All (λ operation. IsText operation.insert) patch.now.ops) }
 {
     let mut ops = Vec::new(alloc);
     for op in patch.ops.as_slice() {
@@ -286,12 +289,14 @@ fn copy_of(alloc: Global, patch: &Patch) -> Result<Patch, AllocError>
 
 /// A copy of an operation.
 fn copy_of_operation(alloc: Global, op: &Operation) -> Result<Operation, AllocError>
-    ensures { IfOk result (λ copy. copy ≡ op.now) }
+    ensures copy { IfOk result (λ copy. copy ≡ op.now) }
+    ensures text { IsText op.now.insert }
 {
+    let units = op.insert.as_units().to_vec(alloc)?;
     Ok(Operation {
         offset: op.offset,
         remove: op.remove,
-        insert: op.insert.slice(alloc, 0, op.insert.len())?,
+        insert: Text::from_units(units),
     })
 }
 

@@ -9,7 +9,7 @@ ghost use Rattle.pad_stroke.specs.Mark.{NoneInBoth};
 ghost use Rattle.pad_stroke.specs.Through.{joined};
 
 use super::*;
-use crate::laws::joints_fit_with_room;
+use crate::laws::{joints_fit_with_room, pairs_stay_whole};
 use pad_patch::{Misfit, VecUnits};
 use pad_transform::laws::sums_fit_with_room;
 use std::test::Fail;
@@ -273,6 +273,25 @@ fn a_work_is_stripped_of_another(rt: HostRuntime) -> Result<(), Fail> {
     // An operation that is empty then is left out, and one that removes stays.
     let (_, work) = edited(alloc, &text, &[(3, 0, "x"), (0, 1, "")])?;
     assert_eq!(rt; row_of(alloc, &without(work, &of))?.as_str(), "[0,1,]");
+    Ok(())
+}
+
+/// A work that was sent as it is, without the units of what was sent.
+fn without_sent(alloc: Global, mut work: Work) -> Result<Work, AllocError> {
+    pairs_stay_whole();
+    let sent = work.copy(alloc)?;
+    let _patch = work.patch(alloc)?;
+    work.strip(&sent);
+    Ok(work)
+}
+
+#[test]
+fn sent_work_is_stripped_with_its_pairs(rt: HostRuntime) -> Result<(), Fail> {
+    let alloc = rt.alloc();
+    let text = store_of(alloc, "abc")?;
+    let (_, work) = edited(alloc, &text, &[(3, 0, "\u{1F600}"), (1, 1, "x")])?;
+    let left = without_sent(alloc, work)?;
+    assert_eq!(rt; row_of(alloc, &left)?.as_str(), "[1,1,]");
     Ok(())
 }
 

@@ -1,0 +1,27 @@
+use Rattle.std.proofs.Common.{◌<◌, ◌+◌, ◌++◌, ◌∷◌, [], rules, length, take, get_or, sym, subst, arith}
+use Rattle.std.specs.List.{All}
+use Rattle.std.proofs.lemmas.Grind.{common_steps}
+use Rattle.std.proofs.lemmas.List.{take_more}
+use Rattle.std.proofs.lemmas.List.Elements.{All-nil, All-cons, All-append}
+use Rattle.pad_text.specs.Text.{IsText}
+use Rattle.pad_patch.specs.declared.operation.Operation.{Operation}
+use Rattle.pad_stroke.proofs.work.copy_of.Goals as goal
+
+abbrev InsertsText : Operation → Type 0
+InsertsText operation = IsText operation.insert
+
+pub loop-op-preserved : goal.loop-op-preserved
+loop-op-preserved c =
+    let ops = c.as_slice-op-items.result.now in
+    let same = c.as_slice-op-items.ensures in
+    let index = c.loop-op.op-index in
+    let op = c.op-item.result in
+    let within : index < length ops = omega arith in
+    let before = subst (λ os. All InsertsText (take index os)) (sym same) c.loop-op.invariant.texts in
+    record {
+      whole = first_of (search rules, grind (arith, common_steps));
+      texts = subst (λ os. All InsertsText (take (index + 1) os)) same
+          (subst (All InsertsText) (sym (take_more ops index op within))
+          (All-append InsertsText (take index ops) (get_or ops index op ∷ []) before
+          (All-cons InsertsText (get_or ops index op) [] (subst InsertsText c.op-item.is c.copy_of_operation.ensures.text) (All-nil InsertsText))));
+    }
