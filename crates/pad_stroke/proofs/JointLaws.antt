@@ -1,6 +1,6 @@
 -- The removals of carried work fit 32 bits.
 use Rattle.std.proofs.Common.{◌≡◌, ℕ, ◌+◌, ◌<◌, ◌≤◌, ◌^◌, List, [], ◌∷◌, length, slice_index_or, refl, ap, arith}
-use Rattle.std.specs.Prelude.{Some, slice_get, All}
+use Rattle.std.specs.Prelude.{Some, All}
 use Rattle.std.proofs.lemmas.List.{length-append}
 use Rattle.std.proofs.lemmas.Option.{slice_get-get_or, slice_get_within, get_or_from_slice_get}
 use Rattle.pad_text.specs.Text.{IsText}

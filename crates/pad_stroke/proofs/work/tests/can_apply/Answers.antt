@@ -1,6 +1,5 @@
-use Rattle.std.proofs.Common.{List, ℕ, ◌⊎◌, inl, inr, sym, subst, arith}
+use Rattle.std.proofs.Common.{List, ℕ, inl, subst, arith}
 use Rattle.pad_patch.specs.declared.patch.Patch.{Patch}
-use Rattle.pad_patch.specs.declared.misfit.Misfit.{Misfit}
 use Rattle.pad_patch.specs.declared.misfit.Misfit.TheVariants.{Order, Range, Pair, TooLong}
 use Rattle.pad_patch.specs.Misfit.{CanApply, IsFirstMisfit}
 use Rattle.pad_stroke.proofs.work.tests.can_apply.Goals as goal
