@@ -1,4 +1,4 @@
-ghost use Rattle.std.specs.Prelude.{◌≡◌, ◌+◌, ◌-◌, ◌≤◌, min, length, take, drop, IfOk, vec_len};
+ghost use Rattle.std.specs.Prelude.{◌≡◌, ◌+◌, ◌-◌, ◌<◌, ◌≤◌, min, length, take, drop, IfOk, vec_len};
 ghost use Rattle.pad_edge.specs.Count.{HasCause};
 ghost use Rattle.disk_volume.specs.Disk.{reads};
 
@@ -44,6 +44,7 @@ pub fn end_seen(from: u64, count: usize, buffer: usize, end: u64) -> u64
     ensures whole { count ≡ min buffer (end - from) → result ≡ end }
     ensures within { result ≤ end }
     ensures given { from + count ≤ result }
+    ensures short { count < buffer → result ≡ from + count }
 {
     if count < buffer {
         from + count as u64
