@@ -1,5 +1,5 @@
 -- Linked paths, and the messages that wait, name by name.
-use Rattle.std.proofs.Common.{◌≡◌, ◌≢◌, ◌↔◌, ℕ, ◌+◌, ◌-◌, ◌≤◌, ◌<◌, ◌⊎◌, inl, inr, List, [], ◌∷◌, ◌++◌, length, map, get_or, Contains, All, Option, Some, None, IsSome, is_some, false, true≢false, slice_get, is_eq, refl, sym, ap, ◌∙◌, subst, arith, append_assoc, append-nil}
+use Rattle.std.proofs.Common.{◌≡◌, ◌≢◌, ◌↔◌, ℕ, ◌+◌, ◌-◌, ◌<◌, ◌⊎◌, inl, inr, List, [], ◌∷◌, ◌++◌, length, map, get_or, Contains, All, Option, Some, None, IsSome, is_some, false, true≢false, slice_get, is_eq, refl, sym, ap, ◌∙◌, subst, arith, append_assoc, append-nil}
 use Rattle.std.specs.BTreeMap.{BTreeMap, IsOrdered, get}
 use Rattle.std.specs.List.{AllByRecursion}
 use Rattle.std.specs.List.Sorted.{IsStrictlySortedBy}
@@ -24,8 +24,8 @@ use Rattle.pad_model.specs.Links.{IsCandidate, AreLinks}
 use Rattle.pad_model.proofs.Members.{contains_head, contains_more, contains_cases, contains_none}
 use Rattle.pad_model.proofs.Orders.{less_itself}
 use Rattle.pad_model.proofs.Tables.{name_same}
-use Rattle.pad_model.proofs.Places.{messages_length, member_at, some_same}
-use Rattle.pad_model.proofs.Numbers.{no_repeat_front, no_repeat_push, number_none, number_same, number_more, number_listed, number_without, mapped_from, contains_map}
+use Rattle.pad_model.proofs.Places.{messages_length, member_at}
+use Rattle.pad_model.proofs.Numbers.{no_repeat_front, no_repeat_push, number_none, number_same, number_more, number_listed, number_without, mapped_from}
 
 pub candidate_from : (b : Base) (R : List Message) (place : ℕ) (v : List ℕ) (n : ℕ) (name : Name) → LeadsTo b R place (messages_at R v) → All (λ i. i < length R) v → n ≡ length v → ((m : Message) → slice_get R place ≡ Some m → name_of m ≡ name) → IsCandidate b R (record { height = record { 0 = n }; name = name; place = place })
 candidate_from b R place v n name to within e named = record {

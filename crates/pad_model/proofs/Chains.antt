@@ -1,11 +1,10 @@
 -- Paths: more messages keep them, their last names tell them apart, and none is longer than the list of messages.
-use Rattle.std.proofs.Common.{◌≡◌, ◌≢◌, ℕ, ◌+◌, ◌≤◌, ◌⊎◌, inl, inr, List, [], ◌∷◌, ◌++◌, length, Contains, refl, sym, ap, ap₂, ◌∙◌, subst, arith, length-append}
+use Rattle.std.proofs.Common.{◌≡◌, ◌≤◌, ◌⊎◌, inl, inr, List, [], ◌∷◌, ◌++◌, length, Contains, refl, sym, ap, ap₂, ◌∙◌, subst, arith, length-append}
 use Rattle.pad_message.specs.declared.message.Message.{Message}
-use Rattle.pad_message.specs.Message.{name_of}
 use Rattle.pad_model.specs.declared.base.Base.{Base}
-use Rattle.pad_model.specs.Path.{last_name, Extends, IsLinkedPath, EachSound, IsPath, NamesDiffer}
+use Rattle.pad_model.specs.Path.{last_name, IsLinkedPath, EachSound, IsPath, NamesDiffer}
 use Rattle.pad_model.specs.Count.{NoRepeat}
-use Rattle.pad_model.proofs.Members.{contains_head, contains_more, contains_cases, contains_none, Split, split, distinct_short}
+use Rattle.pad_model.proofs.Members.{contains_cases, contains_none, Split, split, distinct_short}
 
 pub linked_more : (b : Base) (R S p : List Message) → ((m : Message) → Contains R m → Contains S m) → IsLinkedPath b R p → IsLinkedPath b S p
 linked_more b R S [] more h = tt

@@ -1,5 +1,5 @@
 -- The first sound path, of linked paths from the better to the worse, is the best chain.
-use Rattle.std.proofs.Common.{◌≡◌, ◌≢◌, ℕ, suc, ◌+◌, ◌<◌, ◌≤◌, ◌⊎◌, inl, inr, List, [], ◌∷◌, length, map, get_or, Contains, All, Some, slice_get, false, true≢false, nat_cmp, Ordering, Less, Equal, is_lt, refl, sym, ap, ap₂, ◌∙◌, subst, arith}
+use Rattle.std.proofs.Common.{◌≡◌, ℕ, ◌+◌, ◌<◌, ◌≤◌, ◌⊎◌, inl, inr, List, [], ◌∷◌, length, map, Contains, All, Some, slice_get, true≢false, nat_cmp, Ordering, Less, Equal, is_lt, refl, sym, ap, ap₂, ◌∙◌, subst, arith}
 use Rattle.std.specs.Cmp.{IsTotalOrder, nat_cmp_is}
 use Rattle.std.specs.Cmp.Lexicographic.{slice_cmp, nat_list_cmp_total}
 use Rattle.std.specs.List.Sorted.{IsSorted}
@@ -15,11 +15,10 @@ use Rattle.pad_text.specs.Name.{NameLess}
 use Rattle.pad_message.specs.declared.message.Message.{Message}
 use Rattle.pad_message.specs.Message.{name_of}
 use Rattle.pad_model.specs.declared.base.Base.{Base}
-use Rattle.pad_model.specs.declared.best.Best.{Best}
 use Rattle.pad_model.specs.declared.candidate.Candidate.{Candidate}
 use Rattle.pad_model.specs.declared.links.Links.{Links}
-use Rattle.pad_model.specs.Path.{last_name, text, IsLinkedPath, EachSound, IsPath, IsLinked, NamesDiffer}
-use Rattle.pad_model.specs.Best.{IsBetter, IsBest}
+use Rattle.pad_model.specs.Path.{last_name, IsLinkedPath, EachSound, IsPath, IsLinked, NamesDiffer}
+use Rattle.pad_model.specs.Best.{IsBetter}
 use Rattle.pad_model.specs.Count.{IsNumberOf}
 use Rattle.pad_model.specs.Walk.{LeadsTo}
 use Rattle.pad_model.specs.Links.{IsCandidate, HasEveryLinked, AreLinks, IsTextAt, NoPathTo, IsBestTold}

@@ -1,5 +1,5 @@
 -- A path that is evaluated from the base on: the messages from the place number k on, the newest first.
-use Rattle.std.proofs.Common.{◌≡◌, ℕ, suc, ◌+◌, ◌-◌, ◌<◌, ◌≤◌, List, ◌∷◌, ◌++◌, length, get_or, drop, take, drop-cons, take-append-drop, length-drop, All, slice_get, filter_map, sym, ap, ◌∙◌, subst, arith}
+use Rattle.std.proofs.Common.{◌≡◌, ℕ, suc, ◌+◌, ◌-◌, ◌<◌, List, ◌∷◌, length, get_or, drop, take, drop-cons, take-append-drop, length-drop, All, slice_get, sym, ap, ◌∙◌, subst, arith}
 use Rattle.std.proofs.lemmas.List.Elements.{filter_map-append, All-drop}
 use Rattle.pad_patch.specs.Piece.{text_after}
 use Rattle.pad_message.specs.declared.message.Message.{Message}

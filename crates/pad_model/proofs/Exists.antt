@@ -1,12 +1,12 @@
 -- Under no clash of names there is a best path.
-use Rattle.std.proofs.Common.{◌≡◌, ◌≢◌, ℕ, zero, suc, ◌+◌, ◌<◌, ◌≤◌, ◌⊎◌, inl, inr, List, [], ◌∷◌, length, Contains, refl, sym, ap, ◌∙◌, subst, arith}
+use Rattle.std.proofs.Common.{◌≡◌, ◌≢◌, ℕ, zero, suc, ◌<◌, ◌≤◌, ◌⊎◌, inl, inr, List, [], ◌∷◌, length, Contains, refl, sym, ap, ◌∙◌, subst, arith}
 use Rattle.std.proofs.lemmas.Bool.{cases_lt}
 use Rattle.pad_text.specs.declared.name.Name.{Name}
 use Rattle.pad_text.specs.Name.{NameLess}
 use Rattle.pad_message.specs.declared.message.Message.{Message}
 use Rattle.pad_message.specs.Message.{name_of}
 use Rattle.pad_model.specs.declared.base.Base.{Base}
-use Rattle.pad_model.specs.Path.{last_name, IsSoundOn, Extends, IsLinkedPath, EachSound, IsPath, NamesDiffer}
+use Rattle.pad_model.specs.Path.{last_name, IsSoundOn, IsLinkedPath, EachSound, IsPath, NamesDiffer}
 use Rattle.pad_model.specs.Best.{IsBetter, IsBest}
 use Rattle.pad_model.specs.Laws.{OneBestExists}
 use Rattle.pad_model.proofs.Members.{contains_head, contains_more, contains_cases, contains_none}

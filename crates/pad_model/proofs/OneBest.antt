@@ -1,9 +1,4 @@
 -- There is at most one best path, and only the members matter.
-use Rattle.std.proofs.Common.{List, Contains, ◌↔◌}
-use Rattle.pad_message.specs.declared.message.Message.{Message}
-use Rattle.pad_model.specs.declared.base.Base.{Base}
-use Rattle.pad_model.specs.Path.{IsPath}
-use Rattle.pad_model.specs.Best.{IsBest}
 use Rattle.pad_model.specs.Laws.{AtMostOneBest, OrderIsNoPart}
 use Rattle.pad_model.proofs.Chains.{linked_unique, path_more}
 use Rattle.pad_model.proofs.Orders.{neither_better}

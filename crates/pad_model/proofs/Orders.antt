@@ -1,6 +1,6 @@
 -- The order of names, and of being better.
-use Rattle.std.proofs.Common.{◌≡◌, ℕ, ◌+◌, ◌<◌, ◌≤◌, ◌⊎◌, inl, inr, List, length, refl, sym, ap, ◌∙◌, arith, eq-or-lt_of_le, true≢false, Ordering, nat_cmp, Less, Equal, Greater, is_eq, is_lt}
-use Rattle.std.specs.Cmp.{IsTotalOrder, alike_right}
+use Rattle.std.proofs.Common.{◌≡◌, ℕ, ◌<◌, ◌≤◌, ◌⊎◌, inl, inr, List, length, refl, sym, ap, ◌∙◌, arith, eq-or-lt_of_le, true≢false, Ordering, nat_cmp, Less, Equal, Greater, is_eq, is_lt}
+use Rattle.std.specs.Cmp.{alike_right}
 use Rattle.std.specs.Cmp.Lexicographic.{slice_cmp, nat_list_cmp_total, texts_ties, bytes_decides}
 use Rattle.std.specs.Ordering.{ordering_reverse}
 use Rattle.pad_text.specs.declared.name.Name.{Name}

@@ -1,14 +1,14 @@
 -- Places in the list of the messages received, and the walk from one back to the base.
-use Rattle.std.proofs.Common.{◌≡◌, ◌≢◌, ℕ, zero, suc, ◌+◌, ◌<◌, ◌≤◌, ◌⊎◌, inl, inr, List, [], ◌∷◌, ◌++◌, length, Contains, All, Option, Some, None, IsNone, true, false, true≢false, nat_eq, slice_get, get_or, filter_map, append_assoc, refl, sym, ap, ◌∙◌, subst, arith, length-append}
+use Rattle.std.proofs.Common.{◌≡◌, ◌≢◌, ℕ, zero, suc, ◌<◌, ◌⊎◌, inl, inr, List, [], ◌∷◌, ◌++◌, length, Contains, All, Option, Some, None, IsNone, true, false, true≢false, nat_eq, slice_get, get_or, append_assoc, refl, sym, ap, ◌∙◌, subst, arith, length-append}
 use Rattle.std.specs.List.{cons_option}
 use Rattle.std.specs.Cmp.Lexicographic.{pointwise, bytes_decides}
 use Rattle.std.proofs.lemmas.List.Elements.{filter_map-append, All-head, All-tail}
-use Rattle.std.proofs.lemmas.Option.{slice_get_within, slice_get-get_or}
+use Rattle.std.proofs.lemmas.Option.{slice_get-get_or}
 use Rattle.pad_text.specs.declared.name.Name.{Name}
 use Rattle.pad_message.specs.declared.message.Message.{Message}
 use Rattle.pad_message.specs.Message.{name_of}
 use Rattle.pad_model.specs.declared.base.Base.{Base}
-use Rattle.pad_model.specs.Path.{Extends, IsLinkedPath, IsLinked, NamesDiffer}
+use Rattle.pad_model.specs.Path.{IsLinkedPath, IsLinked, NamesDiffer}
 use Rattle.pad_model.specs.Walk.{messages_at, IsParentPlace, AreParentPlaces, LeadsTo}
 use Rattle.pad_model.proofs.Members.{contains_more}
 use Rattle.pad_model.proofs.Chains.{linked_below, linked_short}

@@ -1,6 +1,5 @@
 -- A summary's lines are the report.
-use Rattle.std.proofs.Common.{◌≡◌, ℕ, List, Result, Ok, Err, IfOk, ap, ap₂, ◌∙◌}
-use Rattle.std.proofs.Common.{String, Global, string_bytes}
+use Rattle.std.proofs.Common.{◌≡◌, ℕ, List, ◌∙◌}
 use Rattle.pad_message.specs.declared.message.Message.{Message}
 use Rattle.pad_model.specs.declared.base.Base.{Base}
 use Rattle.pad_model.specs.declared.summary.Summary.{Summary}

@@ -4,8 +4,8 @@ use Rattle.pad_text.specs.declared.name.Name.{Name}
 use Rattle.pad_message.specs.declared.message.Message.{Message}
 use Rattle.pad_model.specs.declared.base.Base.{Base}
 use Rattle.pad_model.specs.Path.{last_name, text, IsLinked}
-use Rattle.pad_model.specs.Count.{IsNumberOf, IsKnown, IsWaiting, AreCounts}
-use Rattle.pad_model.specs.Report.{report_lines, IsReport}
+use Rattle.pad_model.specs.Count.{IsKnown, IsWaiting, AreCounts}
+use Rattle.pad_model.specs.Report.{report_lines}
 use Rattle.pad_model.specs.Laws.{AtMostOneReport, OrderChangesNoReport}
 use Rattle.pad_model.proofs.Chains.{linked_more}
 use Rattle.pad_model.proofs.Numbers.{one_number, number_same}

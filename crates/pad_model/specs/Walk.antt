@@ -1,5 +1,5 @@
 -- What the walk from a message back to the base answers: places in the list of the messages received.
-use Rattle.std.specs.Prelude.{◌≡◌, ◌≢◌, ℕ, ◌<◌, List, [], ◌∷◌, length, Option, Some, MatchOption, Contains, slice_get}
+use Rattle.std.specs.Prelude.{◌≡◌, ◌≢◌, ℕ, List, ◌∷◌, length, Option, Some, MatchOption, Contains, slice_get}
 use Rattle.std.specs.List.{filter_map}
 use Rattle.pad_message.specs.declared.message.Message.{Message}
 use Rattle.pad_message.specs.Message.{name_of}

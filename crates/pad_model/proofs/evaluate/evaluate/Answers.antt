@@ -1,4 +1,4 @@
-use Rattle.std.proofs.Common.{◌≡◌, ◌∙◌, sym, true≢false}
+use Rattle.std.proofs.Common.{◌∙◌, sym, true≢false}
 use Rattle.pad_model.proofs.Evaluated.{unsound_here, sound_more, text_more}
 use Rattle.pad_model.proofs.evaluate.evaluate.Goals as goal
 

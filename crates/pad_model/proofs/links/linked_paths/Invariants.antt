@@ -1,4 +1,4 @@
-use Rattle.std.proofs.Common.{ℕ, ◌+◌, ◌<◌, ◌^◌, length}
+use Rattle.std.proofs.Common.{◌+◌, ◌<◌, ◌^◌, length}
 use Rattle.pad_model.proofs.Candidates.{Sorting}
 use Rattle.pad_model.proofs.links.linked_paths.Given as goal
 

@@ -1,4 +1,4 @@
-use Rattle.std.proofs.Common.{◌≡◌, ◌+◌, [], ◌∷◌, length, length-append, arith}
+use Rattle.std.proofs.Common.{[], ◌∷◌, length-append, arith}
 use Rattle.pad_model.proofs.Places.{at_place, parents_more}
 use Rattle.pad_model.proofs.walk.parent_places.Goals as goal
 
