@@ -1,4 +1,5 @@
 pub mod Calls
+pub mod Clock
 pub mod Count
 pub mod MemSink
 pub mod MemSource

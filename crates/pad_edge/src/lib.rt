@@ -3,7 +3,9 @@
 #![tactic(auto)]
 
 mod calls;
+mod clock;
 mod failed;
+mod mem_clock;
 mod mem_sink;
 mod mem_source;
 mod sink;
@@ -14,7 +16,9 @@ mod unread;
 mod wire;
 mod wires;
 
+pub use clock::Clock;
 pub use failed::Failed;
+pub use mem_clock::MemClock;
 pub use mem_sink::MemSink;
 pub use mem_source::MemSource;
 pub use sink::Sink;

@@ -1,4 +1,4 @@
-use Rattle.std.proofs.Common.{ℕ, take, ◌∙◌, ap, arith}
+use Rattle.std.proofs.Common.{ℕ, take, refl, ◌∙◌, ap, arith}
 use Rattle.disk_volume.specs.Disk.{Disk, reads}
 use Rattle.gated_log.proofs.Walks.{going_on}
 use Rattle.gated_log.proofs.walking.find_gate.Goals as goal
@@ -11,7 +11,7 @@ loop-next-preserved g c =
       inside = ahead.0;
       within = omega (arith, ahead.2, so_far.within);
       buffer = omega (arith, so_far.buffer, c.go_on.auto.piece);
-      faults = omega (arith, so_far.faults, c.in_ok-next.ensures.cause.later);
+      faults = c.in_ok-next.ensures.cause.kept refl ∙ so_far.faults;
       disk = λ told. c.in_ok-next.ensures.disk told ∙ so_far.disk told;
       going = λ told.
           let here = so_far.going told in

@@ -9,7 +9,7 @@ invariant-loop-next g l = record {
   inside : IsInside l.walk;
   within : l.walk.end ≤ l.end;
   buffer : 5 ≤ length l.piece;
-  faults : g.V.Volume.faults l.initial.volume ≤ g.V.Volume.faults l.volume;
+  faults : g.V.Volume.faults l.volume ≡ g.V.Volume.faults l.initial.volume;
   disk : g.V.Volume.tells → g.V.Volume.disk l.volume ≡ g.V.Volume.disk l.initial.volume;
   going : g.V.Volume.tells → IsGoing (take l.end (reads (g.V.Volume.disk l.initial.volume) l.file)) l.most l.end l.walk;
 }

@@ -1,5 +1,5 @@
 -- The next piece stands behind what was written before.
-use Rattle.std.proofs.Common.{◌≡◌, ◌+◌, ◌-◌, ◌≤◌, ◌++◌, length, length-drop, take, drop, arith, ap, sym, subst}
+use Rattle.std.proofs.Common.{◌≡◌, ◌+◌, ◌-◌, ◌≤◌, ◌++◌, length, length-drop, take, drop, refl, arith, ap, sym, subst, ◌∙◌}
 use Rattle.std.proofs.Math.Seq.{take-add}
 use Rattle.std.proofs.lemmas.List.{take_all}
 use Rattle.std.specs.Io.KnownBytes.{Appends}
@@ -20,5 +20,5 @@ loop-done-preserved g c =
     record {
       within = within;
       grown = subst (Appends (g.O.Sink.written c.args.output.now) (g.O.Sink.written c.write.new.self)) (sym (take-add done count text)) both;
-      later = omega (arith, c.loop-done.invariant.later, c.in_ok-done.ensures.cause.later);
+      kept = c.in_ok-done.ensures.cause.kept refl ∙ c.loop-done.invariant.kept;
     }
