@@ -49,6 +49,11 @@ pub trait UnitStore: Sized + Drop {
     fn hash(&self, alloc: Global) -> Result<Name, AllocError>
         ensures { IfOk result (λ name. name ≡ document_hash (units self.now)) };
 
+    /// Keeps what helps a coming `hash`. It is the same text after it, whatever the answer. A store that keeps nothing has
+    /// nothing to do.
+    fn remember(&mut self, alloc: Global) -> Result<(), AllocError>
+        ensures { units self.new ≡ units self.old };
+
     /// The units are those of a text.
     ghost is_text: { (store : Self) → IsText (units store) };
 }

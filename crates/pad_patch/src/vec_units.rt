@@ -59,5 +59,9 @@ impl UnitStore for VecUnits {
         self.text.hash(alloc)
     }
 
+    fn remember(&mut self, _alloc: Global) -> Result<(), AllocError> {
+        Ok(())
+    }
+
     ghost is_text = { λ store. store.is_text };
 }
