@@ -11,7 +11,7 @@ use Rattle.netflux_codec.specs.declared.request.Request.{Request}
 use Rattle.netflux_codec.specs.Ask.{Asks, IsAsk, ask_elements}
 use Rattle.netflux_codec.specs.Request.{AreElements, IsRequest, IsSeqOf, Requests}
 use Rattle.netflux_codec.specs.Reply.{IsReply, Replies, reply_elements}
-use Rattle.pad_json.proofs.Values.{one_value, one_list}
+use Rattle.pad_json.proofs.CallerLemmas.{one_value, one_list}
 
 -- two lists of elements of one text are the same
 pub same_elements : (text : List ℕ) (first second : List Data) → Spells text (array_of first) → Spells text (array_of second) → first ≡ second

@@ -7,7 +7,7 @@ use Rattle.pad_text.specs.Digits.{IsDigits}
 use Rattle.pad_text.specs.declared.name.Name.{Name}
 use Rattle.pad_text.proofs.HexDigits.{digits-same}
 use Rattle.pad_json.specs.Data.{IsSimple, array_of}
-use Rattle.pad_json.proofs.Compact.{compact_spells}
+use Rattle.pad_json.proofs.CallerLemmas.{compact_spells}
 use Rattle.netflux_codec.specs.declared.ask.Ask.{Ask}
 use Rattle.netflux_codec.specs.declared.ask.Ask.TheVariants as ask
 use Rattle.netflux_codec.specs.declared.body.Body.{Body}

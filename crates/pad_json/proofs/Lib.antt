@@ -1,3 +1,5 @@
 pub mod Values
 pub mod PlainTexts
 pub mod Compact
+pub mod Names
+pub mod CallerLemmas

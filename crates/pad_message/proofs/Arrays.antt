@@ -1,15 +1,21 @@
 -- Facts on JSON arrays as lists.
-use Rattle.std.proofs.Common.{◌≡◌, ℕ, zero, suc, ◌<◌, List, [], ◌∷◌, ◌++◌, length, map, get_or, sym, ap, ◌∙◌, arith}
+use Rattle.std.proofs.Common.{◌≡◌, ℕ, zero, suc, ◌<◌, ◌≤◌, List, [], ◌∷◌, ◌++◌, length, map, get_or, sym, ap, ◌∙◌, arith}
 use Rattle.std.specs.List.{All}
 use Rattle.std.proofs.lemmas.List.{length-map, length_push, same_from_push}
 use Rattle.std.proofs.lemmas.List.Elements.{All-head, All-tail}
 use Rattle.serde_json.specs.Data.{Data}
 use Rattle.pad_json.specs.Data.{array_of}
-use Rattle.pad_json.proofs.Values.{one_list}
+use Rattle.pad_json.proofs.CallerLemmas.{one_list}
 
 -- as many values as there are elements
 pub length-three : {X : Type 0} (f : X → Data) (xs : List X) (a b c : Data) → array_of (map f xs) ≡ array_of (a ∷ b ∷ c ∷ []) → length xs ≡ 3
 length-three f xs a b c same = sym (length-map xs f) ∙ ap length (one_list (map f xs) (a ∷ b ∷ c ∷ []) same)
+
+-- an array with three values in front has as many elements
+pub at-least-three : {X : Type 0} (f : X → Data) (xs : List X) (a b c : Data) (after : List Data) → array_of (map f xs) ≡ array_of (a ∷ b ∷ c ∷ after) → 3 ≤ length xs
+at-least-three f xs a b c after same =
+    let e = ap length (one_list (map f xs) (a ∷ b ∷ c ∷ after) same) in
+    omega (arith, e, length-map xs f)
 
 -- where two lists have the same values, an element of the one has its partner in the other
 pub partner : {X Y : Type 0} (f : X → Data) (g : Y → Data) (P : Y → Type 0) (xs : List X) (ys : List Y) (i : ℕ) (x : X)

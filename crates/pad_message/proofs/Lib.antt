@@ -1,5 +1,7 @@
+pub mod Adopting
 pub mod Arrays
-pub mod Names
 pub mod Values
 pub mod RoundTrip
 pub mod OneMessage
+pub mod Intervals
+pub mod CallerLemmas

@@ -1,3 +1,5 @@
-pub mod Data
-pub mod Message
+pub mod Adopt
 pub mod Content
+pub mod Data
+pub mod Kind
+pub mod Message

@@ -1,7 +1,7 @@
 -- Which messages there are, the compact text of a message, and its name.
 use Rattle.std.specs.Prelude.{◌≡◌, ℕ, ◌^◌, ◌<◌, List, length, All}
-use Rattle.hex.specs.Hex.{IsBytes}
 use Rattle.serde_json.specs.Written.{compact_text}
+use Rattle.pad_json.specs.Name.{IsName}
 use Rattle.pad_text.specs.Text.{IsText}
 use Rattle.pad_text.specs.declared.name.Name.{Name}
 use Rattle.pad_text.specs.Name.{name_of_bytes}
@@ -9,11 +9,6 @@ use Rattle.pad_patch.specs.declared.operation.Operation.{Operation}
 use Rattle.pad_patch.specs.declared.patch.Patch.{Patch}
 use Rattle.pad_message.specs.declared.message.Message.{Message}
 use Rattle.pad_message.specs.Data.{message_data}
-
--- the name has 32 bytes
-pub record IsName (name : Name) : Type 0 where
-  pub whole : length name.0 ≡ 32
-  pub bytes : IsBytes name.0
 
 -- the numbers of the operation have 32 bits, and what it inserts is a text
 pub record IsOperation (operation : Operation) : Type 0 where
@@ -31,7 +26,7 @@ pub record IsMessage (message : Message) : Type 0 where
   pub patch : IsPatch message.patch
   pub parent : IsName message.parent
 
--- the text of a message without whitespace
+-- the text of a message without whitespace; the interval of a checkpoint stands in it where it is not the usual one
 unfoldable pub compact : Message → List ℕ
 compact message = compact_text (message_data message)
 

@@ -14,7 +14,6 @@ pub fn marked_texts_read_back()
 {}
 
 /// A content reads as at most one message.
-#[tactic(auto, using(crate::proofs::OneMessage::spells_one))]
 pub fn contents_spell_one_message()
     ensures { SpellsOne }
 {}

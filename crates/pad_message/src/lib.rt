@@ -12,7 +12,7 @@ mod tests;
 mod writing;
 
 pub use content::{LONGEST_CONTENT, MOST_OPERATIONS};
-pub use kind::Kind;
+pub use kind::{Kind, LONGEST_INTERVAL, SHORTEST_INTERVAL, USUAL_INTERVAL, is_interval};
 pub use laws::{compact_texts_read_back, contents_spell_one_message, marked_texts_read_back};
 pub use message::Message;
 pub use read_refused::ReadRefused;

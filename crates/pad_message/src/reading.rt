@@ -1,5 +1,5 @@
 //! What a JSON value spells.
-ghost use Rattle.std.specs.Prelude.{◌≡◌, ◌≢◌, ℕ, ◌^◌, ◌<◌, ◌≤◌, List, [], ◌∷◌, ◌++◌, length, map, All, None, Some, IfErr, IfNone, IfOk, IfSome};
+ghost use Rattle.std.specs.Prelude.{◌≡◌, ◌≢◌, ℕ, ◌≤◌, List, [], ◌∷◌, ◌++◌, length, map, All, None, Some, IfErr, IfNone, IfOk, IfSome};
 ghost use Rattle.serde_json.specs.Data.{Data, string};
 ghost use Rattle.serde_json.specs.View.{view};
 ghost use Rattle.pad_text.specs.Text.{IsText, utf8};
@@ -8,34 +8,70 @@ ghost use Rattle.pad_patch.specs.declared.operation.Operation.{Operation};
 ghost use Rattle.pad_patch.specs.declared.patch.Patch.{Patch};
 ghost use Rattle.pad_message.specs.declared.kind.Kind.{Kind};
 ghost use Rattle.pad_message.specs.declared.message.Message.{Message};
-ghost use Rattle.pad_message.specs.Data.{kind_number, message_data, name_data, operation_data, patch_data};
+ghost use Rattle.pad_message.specs.Data.{MayFollow, SpellsMessage, kind_number, operation_data, patch_data};
 ghost use Rattle.pad_json.specs.Data.{array_of, whole};
+ghost use Rattle.pad_json.specs.Name.{IsName, name_data};
 ghost use Rattle.pad_message.specs.Content.{most_operations};
-ghost use Rattle.pad_message.specs.Message.{IsMessage, IsName, IsOperation, IsPatch};
+ghost use Rattle.pad_message.specs.Kind.{HasInterval, IsInterval};
+ghost use Rattle.pad_message.specs.Message.{IsMessage, IsOperation, IsPatch};
 
 use crate::content::MOST_OPERATIONS;
-use crate::kind::Kind;
+use crate::kind::{Kind, USUAL_INTERVAL, is_interval};
 use crate::message::Message;
 use crate::read_refused::ReadRefused;
+use pad_json::{name_from, number_from};
 use pad_patch::{Operation, Operations, Patch};
-use pad_text::{Name, Text};
+use pad_text::Text;
 use serde_json::Value;
 use std::alloc::Global;
 
-/// A number of 32 bits.
-fn number_from(value: &Value) -> Option<u32>
-    ensures some { IfSome result (λ number. view value.now ≡ whole number) }
-    ensures none { IfNone result ((number : ℕ) → number < 2 ^ 32 → view value.now ≢ whole number) }
+/// The interval of a checkpoint, by what comes after the parent. It is the usual one where nothing comes.
+fn interval_from(after: &[Value]) -> Option<u16>
+    ensures some { IfSome result (λ interval. MayFollow (Kind.Checkpoint interval) (map view after.now)) }
+    ensures within { IfSome result IsInterval }
+    ensures none { IfNone result ((interval : ℕ) → IsInterval interval
+        → ¬ (MayFollow (Kind.Checkpoint interval) (map view after.now))) }
 {
-    u32::try_from(value.as_u64()?).ok()
+    if after.is_empty() {
+        return Some(USUAL_INTERVAL);
+    }
+    if after.len() != 1 {
+        return None;
+    }
+    let interval = u16::try_from(number_from(&after[0])?).ok()?;
+    if is_interval(interval) {
+        Some(interval)
+    } else {
+        None
+    }
 }
 
-/// A kind, by its number.
-fn kind_from(value: &Value) -> Option<Kind>
-    ensures some { IfSome result (λ kind. view value.now ≡ whole (kind_number kind)) }
-    ensures none { IfNone result ((kind : Kind) → view value.now ≢ whole (kind_number kind)) }
+/// A kind, by its number and what comes after the parent.
+fn kind_from(number: &Value, after: &[Value]) -> Option<Kind>
+    ensures some { IfSome result (λ kind. view number.now ≡ whole (kind_number kind)) }
+    ensures follows { IfSome result (λ kind. MayFollow kind (map view after.now)) }
+    ensures within { IfSome result HasInterval }
+    ensures none { IfNone result ((kind : Kind) → HasInterval kind → MayFollow kind (map view after.now)
+        → view number.now ≢ whole (kind_number kind)) }
 {
-    Kind::from_number(number_from(value)?)
+    match number_from(number)? {
+        2 if after.is_empty() => Some(Kind::Patch),
+        4 => Some(Kind::Checkpoint(interval_from(after)?)),
+        _ => None,
+    }
+}
+
+/// The first three values of an array, and those after them.
+fn first_three_from(value: &Value) -> Option<(&Value, &Value, &Value, &[Value])>
+    ensures some { IfSome result (λ parts. view value.now
+        ≡ array_of (view parts.0.now ∷ view parts.1.now ∷ view parts.2.now ∷ map view parts.3.now)) }
+    ensures none { IfNone result ((first second third : Data) (after : List Data)
+        → view value.now ≢ array_of (first ∷ second ∷ third ∷ after)) }
+{
+    let [first, second, third, after @ ..] = value.as_array()?.as_slice() else {
+        return None;
+    };
+    Some((first, second, third, after))
 }
 
 /// The three values of an array of three.
@@ -49,16 +85,6 @@ fn three_from(value: &Value) -> Option<(&Value, &Value, &Value)>
         return None;
     };
     Some((first, second, third))
-}
-
-/// A name, by its digits.
-#[tactic(auto, using(crate::proofs::Names::names))]
-fn name_from(value: &Value) -> Option<Name>
-    ensures some { IfSome result (λ name. view value.now ≡ name_data name) }
-    ensures typed { IfSome result IsName }
-    ensures none { IfNone result ((name : Name) → IsName name → view value.now ≢ name_data name) }
-{
-    Name::from_hex(value.as_str()?)
 }
 
 /// A text: any string, since the strings of JSON values hold no lone surrogate.
@@ -142,19 +168,23 @@ fn patch_from(alloc: Global, value: &Value) -> Result<Patch, ReadRefused>
     Ok(Patch { ops, before })
 }
 
-/// `[kind, patch, parent]`.
+/// `[kind, patch, parent]`, or `[kind, patch, parent, interval]`.
 pub(crate) fn message_from(alloc: Global, value: &Value) -> Result<Message, ReadRefused>
-    ensures ok { IfOk result (λ message. view value.now ≡ message_data message) }
+    ensures ok { IfOk result (SpellsMessage (view value.now)) }
     ensures typed { IfOk result IsMessage }
     ensures few { IfOk result (λ message. length message.patch.ops ≤ most_operations) }
+    ensures interval { IfOk result (λ message. HasInterval message.kind) }
     ensures unreadable { IfErr result (λ refused. refused ≡ ReadRefused.Unreadable
         → (message : Message) → IsMessage message → length message.patch.ops ≤ most_operations
-        → view value.now ≢ message_data message) }
+        → HasInterval message.kind → ¬ (SpellsMessage (view value.now) message)) }
 {
-    let Some((kind, patch, parent)) = three_from(value) else {
+    let Some((kind, patch, parent, after)) = first_three_from(value) else {
         return Err(ReadRefused::Unreadable);
     };
-    let (Some(kind), Some(parent)) = (kind_from(kind), name_from(parent)) else {
+    let Some(kind) = kind_from(kind, after) else {
+        return Err(ReadRefused::Unreadable);
+    };
+    let Some(parent) = name_from(parent) else {
         return Err(ReadRefused::Unreadable);
     };
     let patch = patch_from(alloc, patch)?;

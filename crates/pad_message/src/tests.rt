@@ -1,9 +1,10 @@
 ghost use Rattle.std.specs.Prelude.{◌≤◌, length, IfOk, IfSome};
 ghost use Rattle.pad_message.specs.Content.{most_operations};
+ghost use Rattle.pad_message.specs.Kind.{HasInterval};
 
 use super::{
     Kind, LONGEST_CONTENT, MOST_OPERATIONS, Message, ReadRefused, compact_texts_read_back,
-    contents_spell_one_message, marked_texts_read_back,
+    contents_spell_one_message, is_interval, marked_texts_read_back,
 };
 use std::alloc::{AllocError, Global};
 use std::test::Fail;
@@ -28,6 +29,12 @@ N cp|  [2 , [[0,0 ,"a\u0062c"] ,"E"],"Z"]
 b7c46af67f1fe4e3fd6bab6b46afdc9c5abd9b3017421086438f5dd52a400839 [2,[[3,0,"!"],"A"],"N"]
 f0c396fdb4cbed9accf126ee6f802d059580d28fe0ce5eb74a1b1e01dbbf08e8 [4,[[0,3,"abc"],"A"],"N"]
 f0c396fdb4cbed9accf126ee6f802d059580d28fe0ce5eb74a1b1e01dbbf08e8 cp|[4,[[0,3,"abc"],"A"],"N"]
+f0c396fdb4cbed9accf126ee6f802d059580d28fe0ce5eb74a1b1e01dbbf08e8 [4,[[0,3,"abc"],"A"],"N",50]
+5fbe73a1df7d9c92d619e1f667619fdf2b0a6f920080e194fa9cc3632f4c3e94 cp|[4,[[0,3,"abc"],"A"],"N", 49 ]
+8e49ea98e2d4628c6b5c533d14acdbf92c7413b8cd2274b37ff090ec42869dc8 [4,[[0,0,""],"E"],"Z"]
+8e49ea98e2d4628c6b5c533d14acdbf92c7413b8cd2274b37ff090ec42869dc8 [4,[[0,0,""],"E"],"Z",50]
+27b6c8681718d58b5d707c3eb87ca9277ad3b3a78e73feeba87b30ed078049f3 [4,[[0,0,""],"E"],"Z",10]
+eb06034c48067e25c03066154e4f0becfb0b7619b17ffd585699ba0dfa7fba17 [4,[[0,0,""],"E"],"Z",1000]
 a4b411975be1d48a91f0ebfcd967add000f69564b2dc5ee644b87bf2bbfd786f [2,["E"],"Z"]
 71224f9ead3e50fcc146258a499f0cdd5504daad18d450533cb2aaf003ba1238 [2,[[4294967295,4294967295,""],"E"],"Z"]
 b6a577eea829fc675d39e84cffed83ebfd7209013bcbab098bec562424dde734 [2,[[0,0,"\"\\\/\b\f\n\r\t\u0000\u001F\u007f\u00e9\u2028\ud83d\ude00"],"E"],"Z"]"#;
@@ -52,6 +59,20 @@ hello
 [2,[[0,4294967296,"abc"],"E"],"Z"]
 [2,[[18446744073709551616,0,"abc"],"E"],"Z"]
 [2,[[0,0,"abc"],"E"],"Z",0]
+[2,[[0,0,"abc"],"E"],"Z",50]
+[4,[[0,0,""],"E"],"Z",9]
+[4,[[0,0,""],"E"],"Z",1001]
+[4,[[0,0,""],"E"],"Z",0]
+[4,[[0,0,""],"E"],"Z",65546]
+[4,[[0,0,""],"E"],"Z",4294967306]
+[4,[[0,0,""],"E"],"Z",10.0]
+[4,[[0,0,""],"E"],"Z",-10]
+[4,[[0,0,""],"E"],"Z",010]
+[4,[[0,0,""],"E"],"Z","50"]
+[4,[[0,0,""],"E"],"Z",null]
+[4,[[0,0,""],"E"],"Z",[50]]
+[4,[[0,0,""],"E"],"Z",50,50]
+[4,[[0,0,""],"E"],"Z",50,"Z"]
 [2,[[0,0,"abc"],"E"],"Z","Z"]
 [2,[[0,0,"abc"],"E"]]
 [2,[[0,0,"abc",0],"E"],"Z"]
@@ -110,8 +131,9 @@ fn copies(
 
 /// The message that a content spells.
 fn message_of(alloc: Global, content: &str) -> Result<Option<Message>, AllocError>
-    ensures { IfOk result
+    ensures few { IfOk result
         (λ found. IfSome found (λ message. length message.patch.ops ≤ most_operations)) }
+    ensures interval { IfOk result (λ found. IfSome found (λ message. HasInterval message.kind)) }
 {
     match Message::read(alloc, content) {
         Ok(message) => Ok(Some(message)),
@@ -160,7 +182,7 @@ fn a_message_is_what_its_content_says(rt: HostRuntime) -> Result<(), Fail> {
     let compact = "[4,[[1,2,\"\\u0000\\u001f/\"],[7,0,\"\u{1f600}\"],\"A\"],\"N\"]";
     let content = content_from(alloc, spelled)?;
     let message = message_of(alloc, content.as_str())?.expect(&rt, "a message");
-    assert_eq!(rt; message.kind, Kind::Checkpoint);
+    assert_eq!(rt; message.kind, Kind::Checkpoint(50));
     assert_eq!(rt; message.parent.hex(alloc)?.as_str(), FIRST);
     assert_eq!(rt; message.patch.before.hex(alloc)?.as_str(), ABC);
     let operations = message.patch.ops.as_slice();
@@ -260,6 +282,64 @@ fn contents_are_read_up_to_their_limits(rt: HostRuntime) -> Result<(), Fail> {
         );
     }
     Ok(())
+}
+
+/// Messages that can become a base, and others, in the same writing.
+const ADOPTED: &str = r#"yes [4,[[0,0,""],"E"],"Z"]
+yes [4,[[0,3,"abc"],"A"],"N",10]
+no [2,[[0,3,"abc"],"A"],"N"]
+no [4,[[0,3,"abc"],"E"],"N"]
+no [4,[[0,3,"abd"],"A"],"N"]
+no [4,[[0,2,"abc"],"A"],"N"]
+no [4,[[1,3,"abc"],"A"],"N"]
+no [4,[[0,0,"abc"],"A"],"N"]
+no [4,["E"],"Z"]
+no [4,[[0,0,""],[0,0,""],"E"],"Z"]
+no [4,[[0,2,"ab"],[2,1,"c"],"A"],"N"]"#;
+
+#[test]
+fn whole_checkpoints_become_bases(rt: HostRuntime) -> Result<(), Fail> {
+    let alloc = rt.alloc();
+    for line in ADOPTED.lines() {
+        let (can, short) = line.split_once(' ').expect(&rt, "a word and a content");
+        let content = content_from(alloc, short)?;
+        let message = message_of(alloc, content.as_str())?.expect(&rt, "a message");
+        assert_eq!(rt; message.can_adopt(alloc)?, can == "yes", "at {short}");
+    }
+    Ok(())
+}
+
+#[test]
+fn bases_are_no_longer_than_texts(rt: HostRuntime) -> Result<(), Fail> {
+    let alloc = rt.alloc();
+    // the document hashes of so many letters `a`
+    let longest = "dd3dde87623d9a6b354c68c943d189c89c63652d945e7bbdf0986cae91a49521";
+    let longer = "c592f4a6b099700b5050ce8bc67367f0c8f44810203124e86405c3e7b6f1a2ba";
+    for (length, hash, want) in [(262_144, longest, true), (262_145, longer, false)] {
+        let front = format!(in alloc; "[4,[[0,{length},\"")?;
+        let back = format!(in alloc; "\"],\"{hash}\"],\"Z\"]")?;
+        let content = copies(alloc, front.as_str(), "a", length, back.as_str())?;
+        let message = message_of(alloc, content.as_str())?.expect(&rt, "a message");
+        assert_eq!(rt; message.can_adopt(alloc)?, want, "at {length}");
+    }
+    Ok(())
+}
+
+#[test]
+fn kinds_tell_what_they_are(rt: HostRuntime) {
+    assert!(rt; !Kind::Patch.is_checkpoint());
+    assert!(rt; Kind::Checkpoint(50).is_checkpoint());
+    for (messages, want) in [
+        (0, false),
+        (9, false),
+        (10, true),
+        (50, true),
+        (1000, true),
+        (1001, false),
+        (65_535, false),
+    ] {
+        assert_eq!(rt; is_interval(messages), want, "at {messages}");
+    }
 }
 
 #[test]

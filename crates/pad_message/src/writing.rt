@@ -5,18 +5,23 @@ ghost use Rattle.pad_message.specs.Data.{message_data, operation_data, patch_dat
 ghost use Rattle.pad_message.specs.Message.{IsMessage, IsOperation, IsPatch};
 
 use crate::message::Message;
+use pad_json::name_value;
 use pad_patch::{Operation, Patch};
 use serde_json::{Value, json};
 use std::alloc::{AllocError, Global};
 
-/// `[kind, patch, parent]`.
+/// `[kind, patch, parent]`, or `[kind, patch, parent, interval]`.
 pub(crate) fn message_value(alloc: Global, message: &Message) -> Result<Value, AllocError>
     ensures value { IfOk result (λ value. view value ≡ message_data message.now) }
     ensures typed { OnOk result (IsMessage message.now) }
 {
     let patch = patch_value(alloc, &message.patch)?;
-    let parent = message.parent.hex(alloc)?;
-    json!(in alloc; [message.kind.number(), patch, parent])
+    let parent = name_value(alloc, &message.parent)?;
+    let number = message.kind.number();
+    match message.kind.written_interval() {
+        Some(interval) => json!(in alloc; [number, patch, parent, interval]),
+        None => json!(in alloc; [number, patch, parent]),
+    }
 }
 
 /// The operations, and then the hash of the text before.
@@ -25,7 +30,7 @@ fn patch_value(alloc: Global, patch: &Patch) -> Result<Value, AllocError>
     ensures typed { OnOk result (IsPatch patch.now) }
 {
     let mut items = operation_values(alloc, patch.ops.as_slice())?;
-    items.push(Value::String(patch.before.hex(alloc)?))?;
+    items.push(name_value(alloc, &patch.before)?)?;
     Ok(Value::Array(items))
 }
 

@@ -16,7 +16,9 @@ use Rattle.pad_patch.specs.Piece.{end_of, text_after}
 use Rattle.pad_patch.specs.Misfit.{IsMisfit, longest_text, Fits}
 use Rattle.pad_message.specs.declared.message.Message.{Message}
 use Rattle.pad_model.specs.declared.base.Base.{Base}
-use Rattle.pad_model.specs.Sound.{is_checkpoint, IsWhole, IsSound}
+use Rattle.pad_message.specs.Adopt.{IsWhole}
+use Rattle.pad_message.specs.Kind.{is_checkpoint}
+use Rattle.pad_model.specs.Sound.{IsSound}
 use Rattle.pad_model.specs.Path.{text, IsSoundOn}
 
 -- ---- numbers, lists of numbers, names

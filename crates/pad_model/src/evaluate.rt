@@ -4,12 +4,13 @@ ghost use Rattle.std.specs.Prelude.{◌≡◌, ℕ, ◌<◌, ◌+◌, ◌↔◌,
 ghost use Rattle.std.specs.Bool.{OnTrue};
 ghost use Rattle.pad_text.specs.Hash.{document_hash};
 ghost use Rattle.pad_patch.specs.Misfit.{CanApply};
-ghost use Rattle.pad_model.specs.Sound.{IsWhole, IsSound};
+ghost use Rattle.pad_message.specs.Adopt.{IsWhole};
+ghost use Rattle.pad_model.specs.Sound.{IsSound};
 ghost use Rattle.pad_model.specs.Path.{EachSound, text};
 ghost use Rattle.pad_model.specs.Walk.{messages_at};
 
 use crate::base::Base;
-use pad_message::{Kind, Message};
+use pad_message::Message;
 use pad_patch::UnitStore;
 use pad_text::{Name, Text};
 use std::alloc::{AllocError, Global};
@@ -50,7 +51,7 @@ fn is_sound<S: UnitStore>(message: &Message, height: usize, text: &S, hash: &Nam
     ensures sound { IsTrue result ↔ IsSound message.now height (S.units text.now) }
     ensures applies { OnTrue result (CanApply message.now.patch (S.units text.now)) }
 {
-    if message.kind == Kind::Checkpoint {
+    if message.kind.is_checkpoint() {
         if height % CHECKPOINT_INTERVAL != 0 {
             return false;
         }

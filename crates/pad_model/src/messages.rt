@@ -1,5 +1,6 @@
 ghost use Rattle.std.specs.Prelude.{◌≡◌, ◌≤◌, [], ◌∷◌, ◌++◌, length, MatchOption, OnOk, OnErr};
 ghost use Rattle.pad_message.specs.Content.{most_operations};
+ghost use Rattle.pad_message.specs.Kind.{HasInterval};
 
 use crate::base::Base;
 use pad_message::Message;
@@ -52,7 +53,8 @@ impl Messages {
 
     /// Adds a message at the end. It is unchanged where there is no memory.
     pub fn push(&mut self, alloc: Global, message: Message) -> Result<(), AllocError>
-        requires { length message.patch.ops ≤ most_operations }
+        requires few { length message.patch.ops ≤ most_operations }
+        requires interval { HasInterval message.kind }
         ensures ok { OnOk result (self.new ≡ self.old ++ message ∷ []) }
         ensures err { OnErr result (self.new ≡ self.old) }
     {

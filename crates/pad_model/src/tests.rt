@@ -1,6 +1,7 @@
 //! Worked rows: what came in, and the report that the definitions give for it.
 
 ghost use Rattle.std.specs.Prelude.{◌≡◌, length, IfOk};
+ghost use Rattle.pad_message.specs.Kind.{HasInterval};
 
 use crate::base::Base;
 use crate::messages::Messages;
@@ -229,7 +230,9 @@ fn message_of(
     before: &str,
     parent: Name,
 ) -> Result<Message, AllocError>
-    ensures { IfOk result (λ message. length message.patch.ops ≡ 1) }
+    requires { HasInterval kind }
+    ensures one { IfOk result (λ message. length message.patch.ops ≡ 1) }
+    ensures kind { IfOk result (λ message. message.kind ≡ kind) }
 {
     let (offset, remove, insert) = operation;
     let insert = Text::from_str(alloc, insert)?;
@@ -264,7 +267,7 @@ fn summary_of_letters(alloc: Global, letters: u32, left_out: usize) -> Result<Su
     }
     let spelled = text.get(left_out..).unwrap_or("");
     let whole = (0, letters, spelled);
-    let message = message_of(alloc, Kind::Checkpoint, whole, text.as_str(), parent)?;
+    let message = message_of(alloc, Kind::Checkpoint(50), whole, text.as_str(), parent)?;
     messages.push(alloc, message)?;
     Ok(Summary::of(alloc, &base, &messages)?)
 }

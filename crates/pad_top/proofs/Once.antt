@@ -1,12 +1,12 @@
 -- An input ends in one way.
-use Rattle.std.proofs.Common.{◌≡◌, ℕ, ◌⊎◌, inl, inr, List, [], ◌∷◌, ◌++◌, Option, None, Some, is_none, count_by, Contains, refl, sym, ap, subst, ◌∙◌, arith}
+use Rattle.std.proofs.Common.{◌≡◌, ℕ, ◌⊎◌, inl, inr, List, [], ◌∷◌, ◌++◌, Option, None, Some, is_none, true, false, true≢false, count_by, Contains, refl, sym, ap, subst, ◌∙◌, arith}
 use Rattle.std.proofs.lemmas.List.Elements.{All-contains, Contains-append_left, Contains-append_right}
 use Rattle.std.specs.List.{AllZip, filter_map}
 use Rattle.pad_text.specs.declared.name.Name.{Name}
-use Rattle.pad_message.specs.declared.kind.Kind.TheVariants as kind
+use Rattle.pad_message.specs.Kind.{is_checkpoint}
 use Rattle.pad_message.specs.declared.message.Message.{Message}
 use Rattle.pad_message.specs.Message.{name_of}
-use Rattle.pad_message.proofs.OneMessage.{spells_one}
+use Rattle.pad_message.proofs.CallerLemmas.{spells_one}
 use Rattle.pad_model.specs.Count.{IsKnown}
 use Rattle.pad_model.proofs.Members.{contains_head, contains_cases}
 use Rattle.pad_top.specs.Line.{lines_of}
@@ -65,11 +65,8 @@ messages_begin before line after messages all unreadable number message first sp
     (read_of rest.0, whole.read ∙ ap read_of rest.1 ∙ read-append first.outcomes (Some message ∷ rest.0) ∙ ap (λ front. front ++ message ∷ read_of rest.0) (sym first.read))
 
 -- a checkpoint is none of messages that are accepted
-no_checkpoint : (messages : List Message) (message : Message) → IsAccepted messages → Contains messages message → message.kind ≡ kind.Checkpoint → ⊥
-no_checkpoint messages message accepted has is = apart (sym is ∙ All-contains (λ m. m.kind ≡ kind.Patch) messages message accepted.patches has)
-  where
-    apart : kind.Checkpoint ≡ kind.Patch → ⊥
-    apart e = cc
+no_checkpoint : (messages : List Message) (message : Message) → IsAccepted messages → Contains messages message → is_checkpoint message.kind ≡ true → ⊥
+no_checkpoint messages message accepted has is = true≢false (sym is ∙ All-contains (λ m. is_checkpoint m.kind ≡ false) messages message accepted.patches has)
 
 -- a message whose name is one too many is none of messages that are accepted with those before it
 not_too_many : (messages rest : List Message) (message : Message) → IsAccepted (messages ++ message ∷ rest) → IsOneTooMany messages message → ⊥
@@ -89,7 +86,7 @@ not_too_many messages rest message accepted many =
 
 -- no line stops a replay among lines that are taken
 abbrev Stops : List Message → Message → Type 0
-Stops messages message = (message.kind ≡ kind.Checkpoint) ⊎ IsOneTooMany messages message
+Stops messages message = (is_checkpoint message.kind ≡ true) ⊎ IsOneTooMany messages message
 
 no_stop : (before : List (List ℕ)) (line : List ℕ) (after : List (List ℕ)) (messages all : List Message) (unreadable number : ℕ) (message : Message)
     → IsTaken before messages unreadable → LineSpells line message → Stops messages message → IsTaken (before ++ line ∷ after) all number → ⊥
@@ -129,12 +126,9 @@ places (b ∷ before) line after (o ∷ other) second behind e =
 
 -- no line is the first to stop a replay in two ways
 one_stop : (lines : List (List ℕ)) (messages others : List Message) (message other : Message) → Reaches lines messages message → IsOneTooMany messages message
-    → Reaches lines others other → other.kind ≡ kind.Checkpoint → ⊥
+    → Reaches lines others other → is_checkpoint other.kind ≡ true → ⊥
 one_stop lines messages others message other reach many second is = go (places reach.before reach.line reach.after second.before second.line second.after (sym reach.parts ∙ second.parts))
   where
-    apart : kind.Checkpoint ≡ kind.Patch → ⊥
-    apart e = cc
-
     go : Places reach.before reach.line second.before second.line → ⊥
     go (earlier rest e) = no_stop reach.before reach.line rest messages others reach.unreadable second.unreadable message reach.taken reach.spelled (inr many)
         (subst (λ ls. IsTaken ls others second.unreadable) e second.taken)
@@ -142,7 +136,7 @@ one_stop lines messages others message other reach many second is = go (places r
         (subst (λ ls. IsTaken ls messages reach.unreadable) e reach.taken)
     go (same e f) =
         let one : message ≡ other = spells_one second.line message other (subst (λ l. LineSpells l message) f reach.spelled).1 second.spelled.1 in
-        apart (sym is ∙ ap (λ m. m.kind) (sym one) ∙ many.patch)
+        true≢false (sym is ∙ ap (λ m. is_checkpoint m.kind) (sym one) ∙ many.patch)
 
 not_past : (input output : List ℕ) → IsReplayed input output → IsPastLimit input → ⊥
 not_past input output replayed (inl long) = omega (arith, replayed.short, long)

@@ -6,7 +6,7 @@ use Rattle.std.proofs.lemmas.List.Elements.{All-push, Contains-push_cases}
 use Rattle.pad_text.specs.declared.name.Name.{Name}
 use Rattle.pad_text.specs.Text.{IsText}
 use Rattle.pad_text.proofs.Texts.{kept_by_cuts}
-use Rattle.pad_message.specs.declared.kind.Kind.TheVariants as kind
+use Rattle.pad_message.specs.Kind.{is_checkpoint}
 use Rattle.pad_message.specs.declared.message.Message.{Message}
 use Rattle.pad_message.specs.Message.{name_of}
 use Rattle.pad_model.specs.declared.base.Base.{Base}
@@ -97,18 +97,18 @@ few_more messages message few room names once known = go room.room
     go (inr (inr (other, has, same))) = few names once (old (λ name here not_base. (other, has, same ∙ here, not_base)))
 
 pub IsInside-more : (base : Base) (messages : List Message) (message : Message) (name : Name) → IsInside base messages → name ≡ name_of message → HasRoom base messages name
-    → message.kind ≡ kind.Patch → IsInside base (messages ++ message ∷ [])
+    → is_checkpoint message.kind ≡ false → IsInside base (messages ++ message ∷ [])
 IsInside-more base messages message name inside is room patch = record {
   first = inside.first;
   accepted = record {
-    patches = All-push (λ m. m.kind ≡ kind.Patch) messages message inside.accepted.patches patch;
+    patches = All-push (λ m. is_checkpoint m.kind ≡ false) messages message inside.accepted.patches patch;
     names = few_more messages message inside.accepted.names (subst (λ b. HasRoom b messages (name_of message)) inside.first (subst (HasRoom base messages) is room));
   };
 }
 
 -- a message for which there is no room
 pub one_too_many : (base : Base) (messages : List Message) (message : Message) (name : Name) → IsInside base messages → name ≡ name_of message → IsFull base messages name
-    → message.kind ≡ kind.Patch → IsAccepted messages × IsOneTooMany messages message
+    → is_checkpoint message.kind ≡ false → IsAccepted messages × IsOneTooMany messages message
 one_too_many base messages message name inside is full patch =
     let told = subst (λ b. IsFull b messages (name_of message)) inside.first (subst (IsFull base messages) is full) in
     (inside.accepted, record { patch = patch; full = told.full; not_base = told.not_base; new = told.new })

@@ -1,7 +1,7 @@
 -- How the program that receives lines goes on, line by line.
-use Rattle.std.specs.Prelude.{◌≡◌, ◌≢◌, ⊤, ℕ, ◌+◌, ◌⊎◌, List, [], ◌∷◌, ◌++◌, Bool, Option, None, Some, Contains, MatchBool}
+use Rattle.std.specs.Prelude.{◌≡◌, ◌≢◌, ⊤, ℕ, ◌+◌, ◌⊎◌, List, [], ◌∷◌, ◌++◌, Bool, true, Option, None, Some, Contains, MatchBool}
 use Rattle.pad_text.specs.declared.name.Name.{Name}
-use Rattle.pad_message.specs.declared.kind.Kind.TheVariants as kind
+use Rattle.pad_message.specs.Kind.{is_checkpoint}
 use Rattle.pad_message.specs.declared.message.Message.{Message}
 use Rattle.pad_message.specs.Message.{name_of}
 use Rattle.pad_model.specs.declared.base.Base.{Base}
@@ -49,7 +49,7 @@ Receives line old new = (outcome : Option Message) × ReadsAs line outcome × (n
 abbrev pub IsMessageRefusal : Message → List Message → ReplayRefused → Type 0
 IsMessageRefusal message messages refused.ReadFault = ⊥
 IsMessageRefusal message messages refused.Limit = IsAccepted messages × IsOneTooMany messages message
-IsMessageRefusal message messages refused.Unbuilt = IsAccepted messages × (message.kind ≡ kind.Checkpoint)
+IsMessageRefusal message messages refused.Unbuilt = IsAccepted messages × (is_checkpoint message.kind ≡ true)
 IsMessageRefusal message messages (refused.NoMemory error) = ⊤
 
 -- why a line was not received

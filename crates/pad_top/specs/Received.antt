@@ -1,9 +1,9 @@
 -- What is received of the lines of an input.
-use Rattle.std.specs.Prelude.{◌≡◌, ◌≢◌, ℕ, ◌≤◌, List, [], ◌∷◌, ◌++◌, length, replicate, Option, None, Some, is_none, All, count_by, Contains}
+use Rattle.std.specs.Prelude.{◌≡◌, ◌≢◌, ℕ, ◌≤◌, List, [], ◌∷◌, ◌++◌, length, replicate, Option, None, Some, is_none, true, false, All, count_by, Contains}
 use Rattle.std.specs.Str.{IsUtf8}
 use Rattle.std.specs.List.{AllZip, filter_map}
 use Rattle.pad_text.specs.declared.name.Name.{Name}
-use Rattle.pad_message.specs.declared.kind.Kind.TheVariants as kind
+use Rattle.pad_message.specs.Kind.{is_checkpoint}
 use Rattle.pad_message.specs.declared.message.Message.{Message}
 use Rattle.pad_message.specs.Message.{name_of}
 use Rattle.pad_message.specs.Content.{Reads}
@@ -40,7 +40,7 @@ HasFewNames messages = (names : List Name) → NoRepeat names → ((name : Name)
 
 -- a replay receives these messages: none of them is a checkpoint, and there are not too many names
 pub record IsAccepted (messages : List Message) : Type 0 where
-  pub patches : All (λ message. message.kind ≡ kind.Patch) messages
+  pub patches : All (λ message. is_checkpoint message.kind ≡ false) messages
   pub names : HasFewNames messages
 
 -- a replay receives the lines to their end
@@ -50,7 +50,7 @@ pub record IsTaken (lines : List (List ℕ)) (messages : List Message) (unreadab
 
 -- the name of the message would be one too many
 pub record IsOneTooMany (messages : List Message) (message : Message) : Type 0 where
-  pub patch : message.kind ≡ kind.Patch
+  pub patch : is_checkpoint message.kind ≡ false
   pub full : IsNumberOf (IsKnown first_base messages) most_names
   pub not_base : name_of message ≢ first_base.name
   pub new : (known : Message) → Contains messages known → name_of known ≢ name_of message
@@ -67,7 +67,7 @@ pub record Reaches (lines : List (List ℕ)) (messages : List Message) (message 
 
 -- the first line at which a replay stops reads as a checkpoint
 abbrev pub MeetsCheckpoint : List (List ℕ) → Type 0
-MeetsCheckpoint lines = (messages : List Message) × (message : Message) × Reaches lines messages message × (message.kind ≡ kind.Checkpoint)
+MeetsCheckpoint lines = (messages : List Message) × (message : Message) × Reaches lines messages message × (is_checkpoint message.kind ≡ true)
 
 -- the first line at which a replay stops brings one name too many
 abbrev pub MeetsOneTooMany : List (List ℕ) → Type 0

@@ -1,12 +1,13 @@
 ghost use Rattle.std.specs.Prelude.{◌≡◌, ◌<◌, ◌≤◌, ◌-◌, ◌^◌, ◌∷◌, ◌++◌, [], length, IfOk, IfErr, string_bytes};
 ghost use Rattle.pad_message.specs.Content.{most_operations};
+ghost use Rattle.pad_message.specs.Kind.{HasInterval};
 ghost use Rattle.pad_model.specs.Path.{NamesDiffer};
 ghost use Rattle.pad_model.specs.Report.{IsReport};
 ghost use Rattle.pad_top.specs.Progress.{TestsRoom};
 
 use crate::read_line::read_line;
 use crate::refused::ReplayRefused;
-use pad_message::{Kind, Message};
+use pad_message::Message;
 use pad_model::{Base, Messages, report};
 use pad_text::{Name, Text};
 use std::alloc::{AllocError, Global};
@@ -94,7 +95,8 @@ impl Received {
 
     /// What was received after a line that reads as this message.
     fn with_message(self, alloc: Global, message: Message) -> Result<Received, ReplayRefused>
-        requires { length message.patch.ops ≤ most_operations }
+        requires few { length message.patch.ops ≤ most_operations }
+        requires interval { HasInterval message.kind }
         ensures received { IfOk result (λ received. received ≡ progress_after (Some message) self) }
         ensures refused { IfErr result (IsMessageRefusal message self.messages) }
     {
@@ -103,9 +105,8 @@ impl Received {
             mut messages,
             unreadable,
         } = self;
-        match message.kind {
-            Kind::Checkpoint => return Err(ReplayRefused::Unbuilt),
-            Kind::Patch => {}
+        if message.kind.is_checkpoint() {
+            return Err(ReplayRefused::Unbuilt);
         }
         let name = message.name(alloc)?;
         if is_one_too_many(&base, &messages, &name) {

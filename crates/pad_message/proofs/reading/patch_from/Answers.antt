@@ -1,7 +1,8 @@
 use Rattle.std.proofs.Common.{map, sym, ◌∙◌, arith}
 use Rattle.std.proofs.lemmas.Result.{err_from_is_err_and}
 use Rattle.serde_json.specs.View.{view}
-use Rattle.pad_message.specs.Data.{operation_data, name_data}
+use Rattle.pad_message.specs.Data.{operation_data}
+use Rattle.pad_json.specs.Name.{name_data}
 use Rattle.pad_message.proofs.Arrays.{same-length, same-parts}
 use Rattle.pad_message.proofs.reading.patch_from.Goals as goal
 

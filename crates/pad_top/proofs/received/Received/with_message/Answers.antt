@@ -1,5 +1,5 @@
 -- There is room for one more message.
-use Rattle.std.proofs.Common.{subst, sym}
+use Rattle.std.proofs.Common.{subst, sym, ◌∙◌}
 use Rattle.pad_top.specs.Progress.{IsInside}
 use Rattle.pad_top.proofs.Receiving.{IsInside-more}
 use Rattle.pad_top.proofs.received.Received.with_message.Goals as goal
@@ -7,4 +7,4 @@ use Rattle.pad_top.proofs.received.Received.with_message.Goals as goal
 pub invariant_of-result : goal.invariant_of-result
 invariant_of-result c =
     subst (IsInside c.self.inside.base) (sym c.in_ok-push_named.ensures.ok)
-    (IsInside-more c.self.inside.base c.self.inside.messages c.args.message c.in_ok-name.name c.self.invariant c.in_ok-name.ensures c.if-is_one_too_many.ensures c.in-Patch.is)
+    (IsInside-more c.self.inside.base c.self.inside.messages c.args.message c.in_ok-name.name c.self.invariant c.in_ok-name.ensures c.if-is_one_too_many.ensures (sym c.is_checkpoint.ensures ∙ c.if-is_checkpoint.false))

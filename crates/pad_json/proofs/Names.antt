@@ -5,7 +5,7 @@ use Rattle.hex.proofs.HexLemmas.{length-encode_with}
 use Rattle.pad_text.specs.Digits.{IsDigits}
 use Rattle.pad_text.specs.declared.name.Name.{Name}
 use Rattle.pad_text.proofs.HexDigits.{IsBytes-digits, IsDigits-bytes}
-use Rattle.pad_message.specs.Message.{IsName}
+use Rattle.pad_json.specs.Name.{IsName}
 
 -- the digits of a name
 pub IsDigits-name : (name : Name) → IsName name → IsDigits 64 (encode_lower name.0)
