@@ -3,8 +3,10 @@ use Rattle.std.proofs.Common.{◌≡◌, ◌<◌, ◌∙◌, ℕ, Bool, true, fa
 use Rattle.std.specs.List.{position_or_len}
 use Rattle.std.proofs.lemmas.Option.{cond_some}
 use Rattle.std.proofs.lemmas.Slice.Eq.{bytes_eq-Decides}
-use Rattle.disk_volume.specs.Folder.{bytes_in, ChangesFile}
-use Rattle.disk_volume.specs.Step.{Step, writes, cuts, syncs, filled}
+use Rattle.disk_volume.specs.Folder.{bytes_in}
+use Rattle.disk_volume.specs.Inside.Folder.{ChangesFile}
+use Rattle.disk_volume.specs.Step.{Step, writes, cuts, syncs}
+use Rattle.disk_volume.specs.Inside.Step.{filled}
 
 -- a file of this name
 abbrev is_named : List ℕ → List ℕ × List ℕ → Bool

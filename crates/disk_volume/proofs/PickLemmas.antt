@@ -5,12 +5,14 @@ use Rattle.std.proofs.Math.Bool.{and-true}
 use Rattle.std.proofs.lemmas.List.{take_more, drop_more}
 use Rattle.std.proofs.lemmas.Slice.Eq.{bytes_eq-Decides}
 use Rattle.disk_volume.specs.Disk.{Disk, began, File, at_rest, after, file_at, reads}
-use Rattle.disk_volume.specs.Folder.{bytes_in, ChangesFile}
-use Rattle.disk_volume.specs.Names.{same_name}
+use Rattle.disk_volume.specs.Folder.{bytes_in}
+use Rattle.disk_volume.specs.Inside.Folder.{ChangesFile}
+use Rattle.disk_volume.specs.Lemmas.Names.{same_name}
 use Rattle.disk_volume.specs.Pick.{torn}
-use Rattle.disk_volume.specs.Replay.{replay-push}
-use Rattle.disk_volume.specs.Step.{Step, writes, cuts, syncs, changed, filled, is_sync, is_sync_of, act_of, after_step, replay}
-use Rattle.disk_volume.specs.Torn.{torn_none, torn_more}
+use Rattle.disk_volume.specs.Lemmas.Replay.{replay-push}
+use Rattle.disk_volume.specs.Step.{Step, writes, cuts, syncs, changed, act_of, after_step, replay}
+use Rattle.disk_volume.specs.Inside.Step.{filled, is_sync, is_sync_of}
+use Rattle.disk_volume.specs.Lemmas.Torn.{torn_none, torn_more}
 
 never : (test : Bool) → (test && false) ≡ false
 never true = refl

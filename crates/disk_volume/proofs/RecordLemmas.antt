@@ -4,10 +4,10 @@ use Rattle.disk_volume.specs.Clock.{Ticked}
 use Rattle.disk_volume.specs.Calls.{Writes, Cuts}
 use Rattle.disk_volume.specs.Disk.{began, file_at, reads, put, MayLeave, IsImage}
 use Rattle.disk_volume.specs.Folder.{bytes_in}
-use Rattle.disk_volume.specs.Images.{put_is_part}
+use Rattle.disk_volume.specs.Lemmas.Images.{put_is_part}
 use Rattle.disk_volume.specs.Memory.{Memory, fresh, disk_of, Records}
-use Rattle.disk_volume.specs.Replay.{replay-push}
-use Rattle.disk_volume.specs.Sound.{left_by_image}
+use Rattle.disk_volume.specs.Lemmas.Replay.{replay-push}
+use Rattle.disk_volume.specs.Lemmas.Sound.{left_by_image}
 use Rattle.disk_volume.specs.Step.{Step, writes, cuts, after_step, replay}
 use Rattle.disk_volume.specs.Stop.{stops_in, left_by}
 

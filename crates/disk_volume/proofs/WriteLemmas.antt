@@ -3,9 +3,9 @@ use Rattle.std.proofs.Common.{◌≡◌, ◌≤◌, ◌∙◌, ℕ, Bool, true, 
 use Rattle.disk_volume.specs.Calls.{Writes, Syncs}
 use Rattle.disk_volume.specs.Disk.{Act, File, Disk, did, wrote, synced, at_rest, after, file_at, reads, MayLeave, IsImage, AtRest, put, Partly}
 use Rattle.disk_volume.specs.Moments.{Grew, still, more, OnlySyncs, no_sync, one_sync, EachSince, EachNow}
-use Rattle.disk_volume.specs.Names.{file_at-here}
-use Rattle.disk_volume.specs.Images.{rest_leaves, write_leaves}
-use Rattle.disk_volume.specs.Since.{each_start, each_more, each_then, grew_then}
+use Rattle.disk_volume.specs.Lemmas.Names.{file_at-here}
+use Rattle.disk_volume.specs.Lemmas.Images.{rest_leaves, write_leaves}
+use Rattle.disk_volume.specs.Lemmas.Since.{each_start, each_more, each_then, grew_then}
 
 -- a call that was one act
 one_act : (old new : Disk) (act : Act) (name : List ℕ) (P : (List ℕ → List ℕ) → Type 0) → new ≡ did act name old → EachNow old P → EachNow (did act name old) P → EachSince old new P

@@ -1,5 +1,6 @@
 -- Where a volume in memory stops, and what becomes of its calls.
-use Rattle.std.specs.Prelude.{ℕ, Bool, true, false, List, ◌==◌, if◌then◌else◌}
+use Rattle.std.specs.Prelude.{◌≡◌, ◌⊎◌, ℕ, ◌<◌, ◌≤◌, Bool, true, false, List, ◌==◌, if◌then◌else◌}
+use Rattle.pad_edge.specs.Count.{Rose}
 use Rattle.disk_volume.specs.Disk.{File}
 use Rattle.disk_volume.specs.Pick.{left}
 use Rattle.disk_volume.specs.declared.pick.Pick.{Pick}
@@ -35,3 +36,12 @@ abbrev pub stop_set : Stop → ℕ → Pick → Stop
 stop_set Unset call pick = Set call pick
 stop_set (Set number old) call pick = Set call pick
 stop_set (Past old) call pick = Past old
+
+-- The stop, once the number of calls went from the first of these to the second. A stop that was set came in between if
+-- the number of its call is one of these, and else it is still set.
+abbrev pub StopLater : (calls : ℕ) → Stop → (later_calls : ℕ) → (later : Stop) → Type 0
+StopLater calls Unset later_calls later = later ≡ Unset
+StopLater calls (Set number pick) later_calls later =
+    ((later ≡ Set number pick) × ((later_calls ≤ number) ⊎ (number < calls)))
+    ⊎ ((later ≡ Past pick) × (calls ≤ number) × Rose number later_calls)
+StopLater calls (Past pick) later_calls later = later ≡ Past pick

@@ -5,7 +5,7 @@ ghost use Rattle.disk_volume.specs.Pick.{torn};
 
 use std::alloc::AllocError;
 
-/// Writes over what stands from a place on, and past the end. A place past the end counts as the end.
+/// Writes these bytes over those from an offset on, and past the end. An offset past the end counts as the end.
 pub fn overwrite(bytes: &mut Vec<u8>, at: usize, piece: &[u8]) -> Result<(), AllocError>
     ensures ok { OnOk result (bytes.new.items ≡ put bytes.old.items at piece.now) }
     ensures err { OnErr result (bytes.new.items ≡ bytes.old.items) }
@@ -26,7 +26,7 @@ pub fn fill_range(bytes: &mut Vec<u8>, at: usize, size: usize, byte: u8)
     bytes[from..from + over].fill(byte);
 }
 
-/// Copies what stands from a place on into a buffer, as much as it holds, and answers how much that is.
+/// Copies the bytes from an offset on into a buffer, as many as it takes, and answers how many that is.
 pub fn copy_from(bytes: &[u8], at: usize, buf: &mut [u8]) -> usize
     ensures within { result ≤ length buf.new }
     ensures copied { take result buf.new ≡ take (length buf.old) (drop at bytes.now) }

@@ -1,6 +1,7 @@
 // The calls that changed a file of a volume in memory.
 ghost use Rattle.std.specs.Prelude.{◌≡◌, OnOk, OnErr};
-ghost use Rattle.disk_volume.specs.Step.{changed, filled, is_sync_of};
+ghost use Rattle.disk_volume.specs.Step.{changed};
+ghost use Rattle.disk_volume.specs.Inside.Step.{filled, is_sync_of};
 
 use crate::bytes::{fill_range, overwrite};
 use std::alloc::AllocError;
@@ -9,7 +10,7 @@ use std::marker::Model;
 /// What a call did to a file.
 #[derive(Debug, Drop)]
 pub enum Change {
-    /// Wrote these bytes from a place on.
+    /// Wrote these bytes from the offset `at` on.
     Wrote { at: usize, piece: Vec<u8> },
     /// Cut it to this length.
     Cut { to: usize },
@@ -30,14 +31,14 @@ impl Model for Done {
 
     ghost Value = { List ℕ × Step };
 
-    ghost use Rattle.disk_volume.specs.Change.{step_of};
+    ghost use Rattle.disk_volume.specs.Inside.Change.{step_of};
 
     ghost view = { λ done. (string_bytes done.file, step_of done.change) };
 }
 
 impl Done {
     ghost use Rattle.std.specs.Prelude.{string_bytes};
-    ghost use Rattle.disk_volume.specs.Change.{step_of};
+    ghost use Rattle.disk_volume.specs.Inside.Change.{step_of};
 
     /// This change of the file of this name.
     pub fn new(file: String, change: Change) -> Done
@@ -60,7 +61,7 @@ impl Done {
         &self.change
     }
 
-    /// Does it again to these bytes. They stay as they are where there is no memory.
+    /// Does it again to these bytes. They stay as they are if memory runs out.
     pub fn apply(&self, bytes: &mut Vec<u8>) -> Result<(), AllocError>
         ensures ok { OnOk result (bytes.new.items ≡ changed self.now.1 bytes.old.items) }
         ensures err { OnErr result (bytes.new.items ≡ bytes.old.items) }

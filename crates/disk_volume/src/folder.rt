@@ -1,7 +1,9 @@
 // Files by name in memory.
 ghost use Rattle.std.specs.Prelude.{◌≡◌, ℕ, List, [], IfOk, OnOk, OnErr, None, position, bytes_eq, if◌then◌else◌};
-ghost use Rattle.disk_volume.specs.Folder.{bytes_in, ChangesFile, SameFiles};
-ghost use Rattle.disk_volume.specs.Step.{changed, filled};
+ghost use Rattle.disk_volume.specs.Folder.{bytes_in};
+ghost use Rattle.disk_volume.specs.Inside.Folder.{ChangesFile, SameFiles};
+ghost use Rattle.disk_volume.specs.Step.{changed};
+ghost use Rattle.disk_volume.specs.Inside.Step.{filled};
 
 use crate::done::Done;
 use std::alloc::{AllocError, Global};
@@ -62,7 +64,7 @@ impl Folder {
         self.clone()
     }
 
-    /// The place of the first file of a name.
+    /// The index of the first file of a name.
     fn position(&self, name: &str) -> Option<usize>
         ensures { result ≡ position (λ held. bytes_eq held.0 name.now) self.now }
     {
@@ -82,7 +84,7 @@ impl Folder {
         }
     }
 
-    /// Does a call again to the file that it was on. The files stay as they are where there is no memory.
+    /// Does a call again to the file that it was on. The files stay as they are if memory runs out.
     pub fn apply(&mut self, alloc: Global, done: &Done) -> Result<(), AllocError>
         ensures ok { OnOk result (ChangesFile done.now.0 (changed done.now.1 (bytes_in self.old done.now.0)) self.old self.new) }
         ensures err { OnErr result (SameFiles self.old self.new) }
@@ -96,7 +98,7 @@ impl Folder {
         }
     }
 
-    /// Does a call to a missing file, which makes it where it wrote bytes.
+    /// Does a call to a missing file, which makes it if it wrote bytes.
     fn add(&mut self, alloc: Global, done: &Done) -> Result<(), AllocError>
         requires { position (λ held. bytes_eq held.0 done.now.0) self.old ≡ None }
         ensures ok { OnOk result (ChangesFile done.now.0 (changed done.now.1 []) self.old self.new) }

@@ -4,13 +4,16 @@ ghost use Rattle.pad_edge.specs.Count.{counted, Rose, HasCause};
 ghost use Rattle.disk_volume.specs.Calls.{Writes, Cuts, Syncs};
 ghost use Rattle.disk_volume.specs.Clock.{Ticked};
 ghost use Rattle.disk_volume.specs.Disk.{file_at, at_rest, reads, MayLeave, IsImage};
-ghost use Rattle.disk_volume.specs.Memory.{fresh, begun, disk_of, turn_of, FailsExactly, GoesOn, Records};
-ghost use Rattle.disk_volume.specs.Step.{writes, cuts, syncs, is_sync_of};
+ghost use Rattle.disk_volume.specs.Memory.{fresh, disk_of, FailsExactly, TakesNoMemory, GoesOn, Records, Follows};
+ghost use Rattle.disk_volume.specs.Inside.Memory.{begun, turn_of};
+ghost use Rattle.disk_volume.specs.Step.{writes, cuts, syncs};
+ghost use Rattle.disk_volume.specs.Inside.Step.{is_sync_of};
 ghost use Rattle.disk_volume.specs.Folder.{bytes_in};
-ghost use Rattle.disk_volume.specs.Sound.{reads_image, left_by_image};
+ghost use Rattle.disk_volume.specs.Lemmas.Follows.{follows_itself as itself, follows_on as goes_on};
+ghost use Rattle.disk_volume.specs.Lemmas.Sound.{reads_image, left_by_image};
 ghost use Rattle.disk_volume.specs.Pick.{torn};
 ghost use Rattle.disk_volume.specs.Stop.{stop_set, stop_after, left_by};
-ghost use Rattle.disk_volume.specs.Change.{step_of};
+ghost use Rattle.disk_volume.specs.Inside.Change.{step_of};
 
 use crate::bytes::copy_from;
 use crate::done::{Change, Done};
@@ -23,7 +26,7 @@ use pad_edge::Failed;
 use std::alloc::{AllocError, Global};
 use std::marker::Model;
 
-/// A volume in memory. It keeps the record of the calls that changed its files, and tells all of it.
+/// A volume in memory. It keeps the record of the calls that changed its files, and contracts know all of it.
 #[derive(Debug, Drop)]
 pub struct MemVolume {
     alloc: Global,
@@ -93,8 +96,8 @@ impl MemVolume {
         self.starved
     }
 
-    /// Lets the call of this number, counted from 0 over the volume's life, stop, and all later calls fail. No call
-    /// stops where that number has passed, and a volume that has stopped stays so.
+    /// Simulates a crash in the call of this number, counted from 0 over the volume's life: that call and all later ones
+    /// fail, and `pick` says what the crash leaves. It has no effect once that call has been made or a crash has happened.
     pub fn stop_at(&mut self, call: u64, pick: Pick)
         ensures { self.new ≡ record self.old { stop = stop_set self.old.stop call pick } }
     {
@@ -104,8 +107,8 @@ impl MemVolume {
         }
     }
 
-    /// The volume that the stop left or, where no call has stopped, the volume as it reads: a new one with nothing
-    /// pending, no stop set and no call that is to fail.
+    /// The volume that the stop left or, if no call has stopped, the volume as it reads: a new one with nothing pending, no
+    /// stop set and no call that is to fail.
     pub fn image(&self, alloc: Global) -> Result<MemVolume, AllocError>
         ensures new { IfOk result (λ image. image ≡ fresh image.first []) }
         ensures files { IfOk result (λ image. (name : List ℕ) →
@@ -115,7 +118,7 @@ impl MemVolume {
         MemVolume::of_files(alloc, self.left_files(alloc)?)
     }
 
-    /// The files that the stop left or, where no call has stopped, the files as they read.
+    /// The files that the stop left or, if no call has stopped, the files as they read.
     fn left_files(&self, alloc: Global) -> Result<Folder, AllocError>
         ensures { IfOk result (λ files. (name : List ℕ) →
             bytes_in files name ≡ left_by self.now.stop (file_at (disk_of self.now) name)) }
@@ -157,7 +160,7 @@ impl MemVolume {
         })
     }
 
-    /// The files as they stood, each at its last sync that answered Ok.
+    /// The files as of the last sync of each that answered `Ok`.
     fn old_files(&self, alloc: Global) -> Result<Folder, AllocError>
         ensures { IfOk result (λ files. (name : List ℕ) → bytes_in files name ≡ (file_at (disk_of self.now) name).stood) }
     {
@@ -204,10 +207,11 @@ impl MemVolume {
         }
     }
 
-    /// A call begins: it is counted, and the volume stops where that was set.
+    /// A call begins: it is counted, and the volume stops if that was set for it.
     fn begin(&mut self) -> Turn
         ensures turn { result ≡ turn_of self.old }
         ensures begun { self.new ≡ begun self.old }
+        ensures later { self.old.calls ≤ self.new.calls }
     {
         let turn = self.turn();
         if let Stop::Set(number, pick) = self.stop {
@@ -228,7 +232,7 @@ impl MemVolume {
         Failed
     }
 
-    /// A call ends. It fails where a growth was refused in it.
+    /// A call ends. It fails if a growth was refused in it.
     fn close<T>(&mut self, outcome: Result<T, AllocError>) -> Result<T, Failed>
         ensures ok { IfOk result (λ value. (outcome ≡ Ok value) × (self.new ≡ self.old)) }
         ensures refused { IsErr result → IsErr outcome }
@@ -247,7 +251,7 @@ impl MemVolume {
         }
     }
 
-    /// Changes a file, and puts that into the record. Nothing changes where there is no memory.
+    /// Changes a file, and puts that into the record. Nothing changes if memory runs out.
     fn carry_out(&mut self, file: &str, change: Change) -> Result<(), AllocError>
         ensures ok { OnOk result (self.new ≡ record self.old { done = self.old.done ++ (file.now, step_of change) ∷ [] }) }
         ensures err { OnErr result (self.new ≡ self.old) }
@@ -259,7 +263,7 @@ impl MemVolume {
         Ok(())
     }
 
-    /// Writes these bytes to a file, and puts that into the record. Nothing changes where there is no memory.
+    /// Writes these bytes to a file, and puts that into the record. Nothing changes if memory runs out.
     fn write(&mut self, file: &str, at: usize, piece: &[u8]) -> Result<(), AllocError>
         ensures ok { OnOk result (self.new ≡ record self.old { done = self.old.done ++ (file.now, writes at piece.now) ∷ [] }) }
         ensures err { OnErr result (self.new ≡ self.old) }
@@ -285,6 +289,12 @@ impl Volume for MemVolume {
 
     ghost faults = { λ volume. volume.faults };
 
+    ghost follows = { Follows };
+
+    ghost follows_itself = { itself };
+
+    ghost follows_on = { goes_on };
+
     ghost as_it_reads = { λ volume told. reads_image (bytes_in volume.first) volume.done };
 
     /// There is one folder in memory, and every name chooses it.
@@ -294,6 +304,7 @@ impl Volume for MemVolume {
         ensures clock { Ticked self.old.calls self.new.calls }
         ensures cause { HasCause self.old.faults self.new.faults result }
         ensures exact { FailsExactly result self.old self.new }
+        ensures no_memory { TakesNoMemory result self.old self.new }
         ensures goes_on { GoesOn result self.old self.new }
     {
         match self.begin() {
@@ -309,6 +320,7 @@ impl Volume for MemVolume {
         ensures clock { Ticked self.old.calls self.new.calls }
         ensures cause { HasCause self.old.faults self.new.faults result }
         ensures exact { FailsExactly result self.old self.new }
+        ensures no_memory { TakesNoMemory result self.old self.new }
         ensures goes_on { GoesOn result self.old self.new }
     {
         match self.begin() {
@@ -326,6 +338,7 @@ impl Volume for MemVolume {
         ensures clock { Ticked self.old.calls self.new.calls }
         ensures cause { HasCause self.old.faults self.new.faults result }
         ensures exact { FailsExactly result self.old self.new }
+        ensures no_memory { TakesNoMemory result self.old self.new }
         ensures goes_on { GoesOn result self.old self.new }
     {
         match self.begin() {

@@ -1,7 +1,7 @@
 // The disk model of one file, carried out.
 ghost use Rattle.std.specs.Prelude.{◌≡◌, ◌↔◌, IfOk, IsTrue};
 ghost use Rattle.disk_volume.specs.Disk.{at_rest, after, MayLeave};
-ghost use Rattle.disk_volume.specs.Pending.{MayHold};
+ghost use Rattle.disk_volume.specs.Inside.Pending.{MayHold};
 ghost use Rattle.disk_volume.specs.Pick.{is_within};
 ghost use Rattle.disk_volume.specs.Step.{act_of};
 
@@ -19,7 +19,7 @@ pub struct Pending {
     /// The least length that it had since that sync, and the greatest.
     least: usize,
     most: u128,
-    /// From this place on it may hold any bytes.
+    /// From this offset on it may hold any bytes.
     loose: usize,
     /// The ranges that were written since, from and to, the latest first.
     written: Vec<(u128, u128)>,
@@ -83,14 +83,14 @@ impl Pending {
         Ok(self)
     }
 
-    /// Whether this place was written since the last sync.
+    /// Whether the byte at this offset was written since the last sync.
     fn is_written(&self, place: usize) -> bool
         ensures { result ≡ is_within self.entry.now.written place }
     {
         self.written.iter().any(|range| range.0 <= place as u128 && (place as u128) < range.1)
     }
 
-    /// Whether it may hold this byte at this place.
+    /// Whether it may hold this byte at this offset.
     fn may_hold(&self, place: usize, byte: u8) -> bool
         ensures { IsTrue result ↔ MayHold self.entry.now place byte }
     {

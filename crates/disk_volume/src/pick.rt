@@ -1,5 +1,5 @@
 /// What a stop leaves of the ranges that were written to a file since its last sync that answered Ok. A cut since then is
-/// undone by `Old`, and stands with `New` and `Torn`.
+/// undone by `Old`, and done with `New` and `Torn`.
 #[derive(Clone, Copy, Debug, PartialEq, Eq)]
 pub enum Pick {
     /// The old bytes and the old length.

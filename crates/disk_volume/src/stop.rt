@@ -1,9 +1,9 @@
 use crate::pick::Pick;
 
-/// Where a volume in memory stops.
+/// In which call a volume in memory stops.
 #[derive(Clone, Copy, Debug)]
 pub enum Stop {
-    /// Nowhere.
+    /// In none.
     Unset,
     /// In the call of this number.
     Set(u64, Pick),

@@ -7,7 +7,8 @@ ghost use Rattle.disk_volume.specs.Moments.{Grew, OnlySyncs, EachSince};
 use crate::volume::Volume;
 use pad_edge::Failed;
 
-/// Writes over what stands in a file from a place on, and puts it on the disk.
+/// Writes these bytes over those of a file from the offset `at` on, and syncs the file. A crash leaves a part of the write
+/// at most. `Failed` comes only if the count of faults rose, and may leave any part of it.
 pub fn write_synced<V: Volume>(
     volume: &mut V,
     file: &str,
@@ -20,6 +21,7 @@ pub fn write_synced<V: Volume>(
         Partly at (length piece.now) (reads (V.disk volume.old) file.now) (image file.now)) }
     ensures files { V.tells → Grew (λ name. name ≡ file.now) (V.disk volume.old) (V.disk volume.new) }
     ensures clock { V.clock volume.new ≤ V.clock volume.old + 2 }
+    ensures follows { V.follows volume.old volume.new }
     ensures cause { HasCause (V.faults volume.old) (V.faults volume.new) result }
 {
     match volume.write_at(file, at, piece) {
@@ -28,7 +30,8 @@ pub fn write_synced<V: Volume>(
     }
 }
 
-/// Puts all that was done to a file on the disk. It leaves nothing that a crash could not leave before.
+/// Puts all that was done to a file on the disk. A crash in it leaves nothing that it could not leave before. `Failed`
+/// comes only if the count of faults rose, and changes nothing.
 pub fn settle<V: Volume>(volume: &mut V, file: &str) -> Result<(), Failed>
     ensures ok { V.tells → OnOk result (AtRest (V.disk volume.new) file.now) }
     ensures reads { V.tells → (name : List ℕ) → reads (V.disk volume.new) name ≡ reads (V.disk volume.old) name }
@@ -36,6 +39,7 @@ pub fn settle<V: Volume>(volume: &mut V, file: &str) -> Result<(), Failed>
     ensures files { V.tells → Grew (λ name. name ≡ file.now) (V.disk volume.old) (V.disk volume.new) }
     ensures syncs { V.tells → OnlySyncs (λ name. name ≡ file.now) (V.disk volume.old) (V.disk volume.new) }
     ensures clock { Ticked (V.clock volume.old) (V.clock volume.new) }
+    ensures follows { V.follows volume.old volume.new }
     ensures cause { HasCause (V.faults volume.old) (V.faults volume.new) result }
 {
     volume.sync(file)

@@ -3,69 +3,87 @@ ghost use Rattle.pad_edge.specs.Count.{HasCause};
 ghost use Rattle.disk_volume.specs.Calls.{Writes, Cuts, Syncs};
 ghost use Rattle.disk_volume.specs.Clock.{Ticked};
 ghost use Rattle.disk_volume.specs.Disk.{Disk, did, wrote, cut as cut_act, file_at, reads, AtRest, IsImage};
-ghost use Rattle.disk_volume.specs.Images.{image_after_write, image_after_cut};
+ghost use Rattle.disk_volume.specs.Lemmas.Images.{image_after_write, image_after_cut};
 ghost use Rattle.disk_volume.specs.Moments.{moment, LeftSince, LeftBefore, Grew, OnlySyncs, EachSince};
-ghost use Rattle.disk_volume.specs.Others.{others_leave as others_leave_since, syncs_rest};
-ghost use Rattle.disk_volume.specs.Since.{since_now, now_alone, elsewhere};
+ghost use Rattle.disk_volume.specs.Lemmas.Others.{others_leave as others_leave_since, syncs_rest};
+ghost use Rattle.disk_volume.specs.Lemmas.Since.{since_now, now_alone, elsewhere};
 
 use pad_edge::Failed;
 
 /// Files by name in one folder.
 pub trait Volume {
-    /// Whether it tells what stands in its files. One that does not, tells its counts alone.
+    /// Whether contracts know what its files hold. If they do not, they know its counts alone.
     ghost tells: { Type 0 };
 
     /// What was done to its files so far.
     ghost disk: { Self → Disk };
 
-    /// A count of its calls.
+    /// How many calls it had. At 2^64 - 1 the count stays.
     ghost clock: { Self → ℕ };
 
-    /// A count of its failures.
+    /// How many calls failed. At 2^64 - 1 the count stays.
     ghost faults: { Self → ℕ };
 
-    /// Chooses the folder in which the files stand, and makes it where it is missing. The files stay as they are.
+    /// What calls, however many, leave of a volume: of the first by the time of the second. A volume says here what was
+    /// decided beforehand about its calls and what became of that; one that has no such plan says nothing.
+    ghost follows: { Self → Self → Type 0 };
+
+    /// Chooses the folder of the files, and makes it if it is missing. The files stay as they are. `Failed` comes only if
+    /// the count of faults rose in this call, here and in all other calls; `Ok` leaves that count as it was.
     fn root(&mut self, folder: &str) -> Result<(), Failed>
         ensures disk { tells → disk self.new ≡ disk self.old }
         ensures clock { Ticked (clock self.old) (clock self.new) }
+        ensures follows { follows self.old self.new }
         ensures cause { HasCause (faults self.old) (faults self.new) result };
 
-    /// The length of a file in bytes, 0 where it is missing.
+    /// The length of a file in bytes, 0 if it is missing.
     fn length(&mut self, file: &str) -> Result<u64, Failed>
         ensures length { tells → IfOk result (λ size. size ≡ length (reads (disk self.old) file.now)) }
         ensures disk { tells → disk self.new ≡ disk self.old }
         ensures clock { Ticked (clock self.old) (clock self.new) }
+        ensures follows { follows self.old self.new }
         ensures cause { HasCause (faults self.old) (faults self.new) result };
 
-    /// Reads from a place on, as many bytes as the file has there and the buffer holds, and answers how many.
+    /// Reads from the offset `at` on, in bytes, as many as the file has there and the buffer takes, and answers how many.
     fn read_at(&mut self, file: &str, at: u64, buf: &mut [u8]) -> Result<usize, Failed>
         ensures within { IfOk result (λ count. count ≤ length buf.new) }
         ensures bytes { tells → IfOk result (λ count.
             take count buf.new ≡ take (length buf.old) (drop at (reads (disk self.old) file.now))) }
         ensures disk { tells → disk self.new ≡ disk self.old }
         ensures clock { Ticked (clock self.old) (clock self.new) }
+        ensures follows { follows self.old self.new }
         ensures cause { HasCause (faults self.old) (faults self.new) result };
 
-    /// Writes over what stands from a place on, and past the end. It makes a missing file. Where it failed, any part
-    /// may be done.
+    /// Writes these bytes over those from the offset `at` on, and past the end. It makes a missing file. After `Failed` any
+    /// part of it may be done.
     fn write_at(&mut self, file: &str, at: u64, piece: &[u8]) -> Result<(), Failed>
         requires { tells → at ≤ length (reads (disk self.old) file.now) }
         ensures disk { tells → Writes result file.now at piece.now (disk self.old) (disk self.new) }
         ensures clock { Ticked (clock self.old) (clock self.new) }
+        ensures follows { follows self.old self.new }
         ensures cause { HasCause (faults self.old) (faults self.new) result };
 
-    /// Cuts a file to a length. Where it failed, any part may be done.
+    /// Cuts a file to a length in bytes. After `Failed` any part of it may be done.
     fn cut(&mut self, file: &str, to: u64) -> Result<(), Failed>
         requires { tells → to ≤ length (reads (disk self.old) file.now) }
         ensures disk { tells → Cuts result file.now to (disk self.old) (disk self.new) }
         ensures clock { Ticked (clock self.old) (clock self.new) }
+        ensures follows { follows self.old self.new }
         ensures cause { HasCause (faults self.old) (faults self.new) result };
 
-    /// Puts all that was done to a file on the disk. After it a crash leaves of this file what a read gives.
+    /// Puts all that was done to a file on the disk. After `Ok` a crash leaves of this file what a read gives; `Failed`
+    /// changes nothing.
     fn sync(&mut self, file: &str) -> Result<(), Failed>
         ensures disk { tells → Syncs result file.now (disk self.old) (disk self.new) }
         ensures clock { Ticked (clock self.old) (clock self.new) }
+        ensures follows { follows self.old self.new }
         ensures cause { HasCause (faults self.old) (faults self.new) result };
+
+    /// No call leaves a volume as it is.
+    ghost follows_itself: { (v : Self) → follows v v };
+
+    /// First some calls and then some more are calls too.
+    ghost follows_on: { (before mid now : Self) → follows before mid → follows mid now → follows before now };
 
     /// A disk as it reads is one of its images.
     ghost as_it_reads: { (v : Self) → tells → IsImage (disk v) (reads (disk v)) };

@@ -6,7 +6,7 @@ use Rattle.std.proofs.lemmas.Nat.{from_be_bytes-to_be_bytes_4}
 use Rattle.std.specs.Int.{w32, to_be_bytes}
 use Rattle.disk_volume.specs.Disk.{Disk, File, file_at, at_rest, reads, Partly, put}
 use Rattle.disk_volume.specs.Moments.{Grew, EachSince}
-use Rattle.disk_volume.specs.Since.{each_then}
+use Rattle.disk_volume.specs.Lemmas.Since.{each_then}
 use Rattle.gated_log.specs.File.{opens, doubt_of}
 use Rattle.gated_log.specs.Frame.{IsFrame}
 use Rattle.gated_log.specs.Holds.{Holds, IsShort, OpensWithin}

@@ -5,7 +5,7 @@ use Rattle.std.proofs.Math.Seq.{take-length}
 use Rattle.std.specs.Prelude.{nat_le, string_bytes}
 use Rattle.disk_volume.specs.Disk.{Disk, File, file_at, at_rest, reads, IsImage, AtRest, MayLeave}
 use Rattle.disk_volume.specs.Moments.{EachNow}
-use Rattle.disk_volume.specs.Images.{rest_leaves}
+use Rattle.disk_volume.specs.Lemmas.Images.{rest_leaves}
 use Rattle.gated_log.specs.declared.damage.Damage.TheVariants.{Long}
 use Rattle.gated_log.specs.declared.log.Log.{Log}
 use Rattle.gated_log.specs.Damages.{damage_opened, damage_of}

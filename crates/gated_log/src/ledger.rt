@@ -2,8 +2,8 @@ ghost use Rattle.std.specs.Prelude.{◌≡◌, ◌↔◌, ◌+◌, ◌<◌, ◌�
 ghost use Rattle.pad_edge.specs.Count.{Rose, HasCause};
 ghost use Rattle.disk_volume.specs.Disk.{Disk, IsImage, AtRest, file_at, reads};
 ghost use Rattle.disk_volume.specs.Moments.{EachNow, EachSince, Grew, LeftBefore, OnlySyncs};
-ghost use Rattle.disk_volume.specs.Others.{others_leave as others_leave_since, syncs_rest};
-ghost use Rattle.disk_volume.specs.Since.{elsewhere};
+ghost use Rattle.disk_volume.specs.Lemmas.Others.{others_leave as others_leave_since, syncs_rest};
+ghost use Rattle.disk_volume.specs.Lemmas.Since.{elsewhere};
 ghost use Rattle.gated_log.specs.declared.damage.Damage.{Damage};
 ghost use Rattle.gated_log.specs.Damages.{MayRefuse};
 ghost use Rattle.gated_log.specs.Ledger.{Within, has_room};

@@ -1,6 +1,6 @@
 use Rattle.std.proofs.Common.{◌∙◌, arith, rules}
 use Rattle.std.proofs.lemmas.Grind.{common_steps}
-use Rattle.disk_volume.specs.Torn.{torn_one}
+use Rattle.disk_volume.specs.Lemmas.Torn.{torn_one}
 use Rattle.disk_volume.proofs.bytes.fill_range.Goals as goal
 
 pub returns : goal.returns

@@ -1,5 +1,5 @@
 use Rattle.std.proofs.lemmas.Result.{on_ok_weaker}
-use Rattle.disk_volume.specs.Since.{grew_then}
+use Rattle.disk_volume.specs.Lemmas.Since.{grew_then}
 use Rattle.gated_log.proofs.Crash.{before_entry, through_entry, framed, opened_holds}
 use Rattle.gated_log.proofs.entry.write_entry.Goals as goal
 

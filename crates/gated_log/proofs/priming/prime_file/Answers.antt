@@ -1,6 +1,6 @@
 use Rattle.std.proofs.Common.{Bool, inl, subst}
 use Rattle.disk_volume.specs.Moments.{still}
-use Rattle.disk_volume.specs.Since.{now_alone}
+use Rattle.disk_volume.specs.Lemmas.Since.{now_alone}
 use Rattle.gated_log.specs.Laws.{file_now}
 use Rattle.gated_log.specs.Log.{HoldsFile}
 use Rattle.gated_log.proofs.priming.prime_file.Goals as goal

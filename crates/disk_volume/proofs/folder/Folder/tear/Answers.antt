@@ -1,5 +1,5 @@
 use Rattle.std.proofs.Common.{rules}
-use Rattle.disk_volume.specs.Step.{filled}
+use Rattle.disk_volume.specs.Inside.Step.{filled}
 use Rattle.disk_volume.proofs.FolderLemmas.{changes_found, changes_none, missing_bytes, filled_nothing}
 use Rattle.disk_volume.proofs.folder.Folder.tear.Goals as goal
 

@@ -1,7 +1,7 @@
 use Rattle.std.proofs.Common.{◌≡◌, ◌++◌, ◌∷◌, [], rules}
 use Rattle.disk_volume.specs.Disk.{began}
 use Rattle.disk_volume.specs.Folder.{bytes_in}
-use Rattle.disk_volume.specs.Replay.{reads_more}
+use Rattle.disk_volume.specs.Lemmas.Replay.{reads_more}
 use Rattle.disk_volume.proofs.mem_volume.MemVolume.carry_out.Goals as goal
 
 pub invariant_of-self-2 : goal.invariant_of-self-2

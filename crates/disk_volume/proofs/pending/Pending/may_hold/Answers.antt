@@ -2,7 +2,7 @@ use Rattle.std.proofs.Common.{◌≡◌, ◌<◌, true, false, slice_index, rule
 use Rattle.std.proofs.lemmas.Bool.Decides.{nat_tests}
 use Rattle.disk_volume.specs.Disk.{File}
 use Rattle.disk_volume.specs.Pick.{is_within}
-use Rattle.disk_volume.specs.Torn.{outside, not_within}
+use Rattle.disk_volume.specs.Lemmas.Torn.{outside, not_within}
 use Rattle.disk_volume.proofs.pending.Pending.may_hold.Goals as goal
 use Rattle.disk_volume.proofs.pending.Pending.may_hold.Goals.{then-self-place-via-then-self-place, then-self-place-via-else-self-place+then-is_written}
 

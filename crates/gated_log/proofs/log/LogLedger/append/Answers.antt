@@ -2,7 +2,7 @@ use Rattle.std.proofs.Common.{◌≡◌, ◌+◌, ◌++◌, [], ◌∷◌, List,
 use Rattle.std.specs.Prelude.{string_bytes}
 use Rattle.disk_volume.specs.Disk.{Disk}
 use Rattle.disk_volume.specs.Moments.{Grew, EachSince, still}
-use Rattle.disk_volume.specs.Since.{now_alone}
+use Rattle.disk_volume.specs.Lemmas.Since.{now_alone}
 use Rattle.gated_log.specs.File.{magic_one}
 use Rattle.gated_log.specs.Holds.{Holds, OpensWithin}
 use Rattle.gated_log.specs.Laws.{holds_now, primed_holds}

@@ -2,7 +2,7 @@
 use Rattle.std.proofs.Common.{◌≡◌, ◌≤◌, ℕ, List, inl, inr, arith, refl, ◌∙◌, subst}
 use Rattle.disk_volume.specs.Disk.{Act, Disk, began, did, file_at, IsImage, MayLeave}
 use Rattle.disk_volume.specs.Moments.{moment, LeftSince, Grew, still, more, EachSince, EachNow}
-use Rattle.disk_volume.specs.Names.{file_at-elsewhere}
+use Rattle.disk_volume.specs.Lemmas.Names.{file_at-elsewhere}
 
 -- an image now is one since each moment
 pub since_now : (time : ℕ) (disk : Disk) (image : List ℕ → List ℕ) → IsImage disk image → LeftSince time disk image

@@ -2,7 +2,8 @@
 use Rattle.std.proofs.Common.{◌≡◌, ℕ, Bool, true, false, List, [], ◌∷◌, ◌++◌, refl, sym, ap, bytes_eq, if◌then◌else◌}
 use Rattle.std.proofs.lemmas.Slice.Eq.{bytes_eq-Decides}
 use Rattle.disk_volume.specs.Disk.{Disk, after, file_at, reads}
-use Rattle.disk_volume.specs.Folder.{bytes_in, ChangesFile}
+use Rattle.disk_volume.specs.Folder.{bytes_in}
+use Rattle.disk_volume.specs.Inside.Folder.{ChangesFile}
 use Rattle.disk_volume.specs.Step.{Step, writes, cuts, syncs, changed, act_of, after_step, replay}
 
 -- one call more

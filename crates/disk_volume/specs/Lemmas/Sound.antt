@@ -6,7 +6,7 @@ use Rattle.disk_volume.specs.Disk.{Disk, began, File, at_rest, after, file_at, r
 use Rattle.disk_volume.specs.Pick.{left}
 use Rattle.disk_volume.specs.Step.{Step, writes, cuts, syncs, act_of, after_step, replay}
 use Rattle.disk_volume.specs.Stop.{left_by}
-use Rattle.disk_volume.specs.Torn.{length-torn, torn-outside}
+use Rattle.disk_volume.specs.Lemmas.Torn.{length-torn, torn-outside}
 use Rattle.disk_volume.specs.declared.pick.Pick.{Pick}
 use Rattle.disk_volume.specs.declared.pick.Pick.TheVariants.{Old, New, Torn}
 use Rattle.disk_volume.specs.declared.stop.Stop.{Stop}

@@ -3,7 +3,7 @@ use Rattle.std.proofs.Common.{◌≡◌, ◌∙◌, Bool, true, false, List, ℕ
 use Rattle.std.proofs.lemmas.Slice.Eq.{bytes_eq-Decides}
 use Rattle.disk_volume.specs.Disk.{Act, Disk, did, File, at_rest, after, synced, file_at, reads, MayLeave, IsImage, AtRest}
 use Rattle.disk_volume.specs.Moments.{Grew, still, more, OnlySyncs, no_sync, one_sync, LeftBefore, EachSince}
-use Rattle.disk_volume.specs.Since.{now_alone}
+use Rattle.disk_volume.specs.Lemmas.Since.{now_alone}
 
 -- some of these acts was on this file
 abbrev acted : {own : List ℕ → Type 0} {old : Disk} {new : Disk} → Grew own old new → List ℕ → Bool
