@@ -3,8 +3,8 @@ use Rattle.std.proofs.Common.{◌≡◌, ◌≤◌, ◌⊎◌, inl, inr, List, [
 use Rattle.pad_message.specs.declared.message.Message.{Message}
 use Rattle.pad_model.specs.declared.base.Base.{Base}
 use Rattle.pad_model.specs.Path.{last_name, IsLinkedPath, EachSound, IsPath, NamesDiffer}
-use Rattle.pad_model.specs.Count.{NoRepeat}
-use Rattle.pad_model.proofs.Members.{contains_cases, contains_none, Split, split, distinct_short}
+use Rattle.pad_model.specs.Number.{NoRepeat}
+use Rattle.pad_model.proofs.Members.{contains_more, contains_cases, contains_none, Split, split, distinct_short}
 
 pub linked_more : (b : Base) (R S p : List Message) → ((m : Message) → Contains R m → Contains S m) → IsLinkedPath b R p → IsLinkedPath b S p
 linked_more b R S [] more h = tt
@@ -31,7 +31,7 @@ pub sound_below : (b : Base) (above p : List Message) → EachSound b (above ++ 
 sound_below b [] p h = h
 sound_below b (m ∷ above) p h = sound_below b above p h.1
 
-linked_once : (b : Base) (R p : List Message) → NamesDiffer R → IsLinkedPath b R p → NoRepeat p
+pub linked_once : (b : Base) (R p : List Message) → NamesDiffer R → IsLinkedPath b R p → NoRepeat p
 linked_once b R [] d h = tt
 linked_once b R (m ∷ p) d h = (λ again. twice (split m p again), linked_once b R p d h.1)
   where
@@ -52,3 +52,17 @@ linked_received b R (m ∷ p) x h c = go (contains_cases m p x c) (linked_receiv
 -- a linked path has at most as many messages as were received
 pub linked_short : (b : Base) (R p : List Message) → NamesDiffer R → IsLinkedPath b R p → length p ≤ length R
 linked_short b R p d h = distinct_short p R (linked_once b R p d h) (λ x c. linked_received b R p x h c)
+
+-- messages whose names differ do so without one of them
+pub differ_before : (m : Message) (R : List Message) → NamesDiffer (m ∷ R) → NamesDiffer R
+differ_before m R u x y rx ry = u x y (contains_more m R x rx) (contains_more m R y ry)
+
+-- a linked path with one message more is one without it, or has it on it
+pub linked_new : (b : Base) (R : List Message) (m : Message) (p : List Message) → IsLinkedPath b (m ∷ R) p → IsLinkedPath b R p ⊎ ((above : List Message) × (below : List Message) × (p ≡ above ++ m ∷ below))
+linked_new b R m [] h = inl tt
+linked_new b R m (x ∷ p) h = go (contains_cases m R x h.0.member) (linked_new b R m p h.1)
+  where
+    go : (m ≡ x) ⊎ Contains R x → IsLinkedPath b R p ⊎ ((above : List Message) × (below : List Message) × (p ≡ above ++ m ∷ below)) → IsLinkedPath b R (x ∷ p) ⊎ ((above : List Message) × (below : List Message) × (x ∷ p ≡ above ++ m ∷ below))
+    go (inl e) rest = inr ([], p, ap (λ w. w ∷ p) (sym e))
+    go (inr c) (inl l) = inl (record { member = c; not_base = h.0.not_base; parent = h.0.parent }, l)
+    go (inr c) (inr (above, below, e)) = inr (x ∷ above, below, ap (λ w. x ∷ w) e)

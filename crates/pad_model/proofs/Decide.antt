@@ -16,10 +16,10 @@ use Rattle.pad_patch.specs.Piece.{end_of, text_after}
 use Rattle.pad_patch.specs.Misfit.{IsMisfit, longest_text, Fits}
 use Rattle.pad_message.specs.declared.message.Message.{Message}
 use Rattle.pad_model.specs.declared.base.Base.{Base}
-use Rattle.pad_message.specs.Adopt.{IsWhole}
 use Rattle.pad_message.specs.Kind.{is_checkpoint}
+use Rattle.pad_message.specs.Adopt.{IsWhole}
 use Rattle.pad_model.specs.Sound.{IsSound}
-use Rattle.pad_model.specs.Path.{text, IsSoundOn}
+use Rattle.pad_model.specs.Path.{text, interval, since_checkpoint, IsSoundOn}
 
 -- ---- numbers, lists of numbers, names
 
@@ -232,12 +232,12 @@ checkpoint_dec true (no j) = no (λ f. j (f refl))
 checkpoint_dec false d = yes (λ e. absurd (true≢false (sym e)))
 
 pub sound_dec : (b : Base) (p : List Message) (m : Message) → Dec (IsSoundOn b p m)
-sound_dec b p m = at (length p + 1) (text b p)
+sound_dec b p m = at (since_checkpoint p + 1) (interval b p) (text b p)
   where
-    go : (h : ℕ) (t : List ℕ) → Dec (Fits m.patch t) → Dec (is_checkpoint m.kind ≡ true → (h % 50 ≡ 0) × IsWhole m t) → Dec (IsSound m h t)
-    go h t (yes f) (yes c) = yes (record { fits = f; checkpoint = c })
-    go h t (no j) c = no (λ s. j s.fits)
-    go h t (yes f) (no j) = no (λ s. j s.checkpoint)
+    go : (d i : ℕ) (t : List ℕ) → Dec (Fits m.patch t) → Dec (is_checkpoint m.kind ≡ true → (d % i ≡ 0) × IsWhole m t) → Dec (IsSound m d i t)
+    go d i t (yes f) (yes c) = yes (record { fits = f; checkpoint = c })
+    go d i t (no j) c = no (λ s. j s.fits)
+    go d i t (yes f) (no j) = no (λ s. j s.checkpoint)
 
-    at : (h : ℕ) (t : List ℕ) → Dec (IsSound m h t)
-    at h t = go h t (fits_dec m.patch t) (checkpoint_dec (is_checkpoint m.kind) (both_dec (eq_dec (h % 50) 0) (whole_dec m t)))
+    at : (d i : ℕ) (t : List ℕ) → Dec (IsSound m d i t)
+    at d i t = go d i t (fits_dec m.patch t) (checkpoint_dec (is_checkpoint m.kind) (both_dec (eq_dec (d % i) 0) (whole_dec m t)))

@@ -1,14 +1,15 @@
-pub mod Members
+mod Members
+mod Numbers
 mod Chains
 mod Orders
 mod OneBest
 mod Decide
 mod Exists
-mod Tables
-mod Places
-mod Evaluated
-mod Choosing
-mod Reported
+mod Chosen
+mod Roots
+mod OneChoice
+mod Overtaking
+mod Stays
+mod Adoption
 mod Reports
-mod Numbers
-mod Candidates
+pub mod CallerLemmas

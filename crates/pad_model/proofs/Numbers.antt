@@ -2,7 +2,7 @@
 use Rattle.std.proofs.Common.{◌≡◌, ◌≢◌, ◌↔◌, ℕ, ◌+◌, ◌-◌, ◌⊎◌, inl, inr, List, [], ◌∷◌, ◌++◌, length, map, Contains, refl, sym, ap, ap₂, ◌∙◌, subst, arith, length-append}
 use Rattle.std.proofs.lemmas.List.{length-map}
 use Rattle.std.proofs.lemmas.List.Elements.{Contains-append_right, Contains-push_cases}
-use Rattle.pad_model.specs.Count.{NoRepeat, IsNumberOf}
+use Rattle.pad_model.specs.Number.{NoRepeat, IsNumberOf}
 use Rattle.pad_model.proofs.Members.{contains_head, contains_more, contains_cases, contains_none, contains_middle, Split, split, distinct_short}
 
 -- ---- lists without repeats
@@ -23,7 +23,7 @@ no_repeat_push {A = A} (x ∷ xs) y h n = (λ c. go (Contains-push_cases xs y x 
     go (inl k) = h.0 k
     go (inr e) = n (subst (Contains (x ∷ xs)) (sym e) (contains_head x xs))
 
-contains_around : {A : Type 0} (x z : A) (us vs : List A) → Contains (us ++ vs) z → Contains (us ++ x ∷ vs) z
+pub contains_around : {A : Type 0} (x z : A) (us vs : List A) → Contains (us ++ vs) z → Contains (us ++ x ∷ vs) z
 contains_around x z [] vs h = contains_more x vs z h
 contains_around {A = A} x z (u ∷ us) vs h = go (contains_cases u (us ++ vs) z h) (contains_around x z us vs)
   where

@@ -1,10 +1,9 @@
 pub mod Sound
+pub mod Base
 pub mod Path
 pub mod Best
+pub mod Number
+pub mod Choice
 pub mod Count
 pub mod Report
-pub mod Messages
-pub mod Walk
-pub mod Links
-pub mod Summary
 pub mod Laws

@@ -1,5 +1,5 @@
 -- The report of the messages received.
-use Rattle.std.specs.Prelude.{◌≡◌, ℕ, List, ◌++◌, length, codes, decimal}
+use Rattle.std.specs.Prelude.{◌≡◌, ℕ, List, ◌++◌, length, reverse, codes, decimal}
 use Rattle.serde_json.specs.Data.{string}
 use Rattle.serde_json.specs.Written.{compact_text}
 use Rattle.hex.specs.Hex.{encode_lower}
@@ -9,7 +9,7 @@ use Rattle.pad_text.specs.Text.{utf8}
 use Rattle.pad_message.specs.declared.message.Message.{Message}
 use Rattle.pad_model.specs.declared.base.Base.{Base}
 use Rattle.pad_model.specs.Path.{last_name, text}
-use Rattle.pad_model.specs.Best.{IsBest}
+use Rattle.pad_model.specs.Choice.{Choice, IsChoice}
 use Rattle.pad_model.specs.Count.{AreCounts}
 
 -- a line: a word, a space, what it tells, and the line's end
@@ -28,27 +28,58 @@ place_text name height = digits name ++ codes " " ++ decimal height
 abbrev pub json_string : List ℕ → List ℕ
 json_string units = compact_text (string (utf8 units))
 
--- the eleven lines. The root that is kept is the base, at height 0, so nothing overtakes the best chain below it.
-abbrev pub report_lines : (best : Name) (height : ℕ) (units : List ℕ) (known waiting unreadable : ℕ) (root : Name) (kept : ℕ) → List ℕ
-report_lines best height units known waiting unreadable root kept =
-    line (codes "best") (digits best)
-    ++ line (codes "height") (decimal height)
-    ++ line (codes "hash") (digits (document_hash units))
-    ++ line (codes "units") (decimal (length units))
-    ++ line (codes "known") (decimal known)
-    ++ line (codes "waiting") (decimal waiting)
-    ++ line (codes "unreadable") (decimal unreadable)
-    ++ line (codes "root") (place_text root 0)
-    ++ line (codes "kept") (decimal kept)
-    ++ line (codes "overtaken") (decimal 0)
-    ++ line (codes "text") (json_string units)
+-- what a report tells
+pub record Told : Type 0 where
+  -- the chosen path: its last name, its height, and the text after it
+  pub best : Name
+  pub height : ℕ
+  pub units : List ℕ
+  -- the counts
+  pub known : ℕ
+  pub waiting : ℕ
+  pub unreadable : ℕ
+  -- the kept root, and its height
+  pub root : Name
+  pub root_height : ℕ
+  pub kept : ℕ
+  pub overtaken : ℕ
 
--- the bytes are the report of the best chain of the messages received
+-- the eleven lines
+abbrev pub report_lines : Told → List ℕ
+report_lines told =
+    line (codes "best") (digits told.best)
+    ++ line (codes "height") (decimal told.height)
+    ++ line (codes "hash") (digits (document_hash told.units))
+    ++ line (codes "units") (decimal (length told.units))
+    ++ line (codes "known") (decimal told.known)
+    ++ line (codes "waiting") (decimal told.waiting)
+    ++ line (codes "unreadable") (decimal told.unreadable)
+    ++ line (codes "root") (place_text told.root told.root_height)
+    ++ line (codes "kept") (decimal told.kept)
+    ++ line (codes "overtaken") (decimal told.overtaken)
+    ++ line (codes "text") (json_string told.units)
+
+-- what a report tells of a choice and counts
+abbrev pub told_of : Base → Choice → (known waiting unreadable kept : ℕ) → Told
+told_of base choice known waiting unreadable kept = record {
+  best = last_name base choice.chosen;
+  height = length choice.chosen;
+  units = text base choice.chosen;
+  known = known;
+  waiting = waiting;
+  unreadable = unreadable;
+  root = last_name base choice.root;
+  root_height = length choice.root;
+  kept = kept;
+  overtaken = choice.overtaken;
+}
+
+-- the bytes are the report of the messages received, in the order in which they came, and of this many other contents
 pub record IsReport (base : Base) (received : List Message) (unreadable : ℕ) (bytes : List ℕ) : Type 0 where
-  pub best : List Message
-  pub is_best : IsBest base received best
+  pub choice : Choice
+  pub is_choice : IsChoice base (reverse received) choice
   pub known : ℕ
   pub waiting : ℕ
   pub kept : ℕ
-  pub counts : AreCounts base received known waiting kept
-  pub lines : bytes ≡ report_lines (last_name base best) (length best) (text base best) known waiting unreadable base.name kept
+  pub counts : AreCounts base received choice.root known waiting kept
+  pub lines : bytes ≡ report_lines (told_of base choice known waiting unreadable kept)

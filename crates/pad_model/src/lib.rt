@@ -1,26 +1,14 @@
-//! The best chain of a list of messages: what it is, and a plain program that finds it and reports it.
+//! The best chain of messages received, what is kept of it, and what a report tells: definitions and their laws.
 #![tactic(auto)]
 
 mod base;
-mod best;
-mod candidate;
-mod evaluate;
 mod laws;
-mod links;
-mod messages;
-mod summary;
-mod walk;
-mod writing;
 
 pub use base::Base;
-pub use best::Best;
 pub use laws::{
-    at_most_one_best, at_most_one_report, one_best_exists, order_changes_no_report,
-    order_is_no_part,
+    adoption_changes_nothing, at_most_one_best, at_most_one_choice, at_most_one_report,
+    best_at_base, best_through_its_root, checkpoints_can_be_adopted, few_overtake, never_worse,
+    nothing_links, nothing_overtook, one_best_exists, one_linked_height, only_new_paths,
+    order_changes_no_best, order_is_no_part, repeat_changes_no_choice, repeat_changes_no_report,
+    root_on_chosen, root_rises, stays_best, stays_chosen,
 };
-pub use messages::Messages;
-pub use summary::Summary;
-pub use writing::report;
-
-#[cfg(test)]
-mod tests;
