@@ -1,15 +1,15 @@
 //! The program: the words of its command line, its standard input and output, and its exit status.
 #![tactic(auto)]
 
-mod reader_source;
-mod writer_sink;
+ghost use Rattle.std.specs.Prelude.{◌≡◌};
+ghost use Rattle.std.specs.Process.{exit_status};
+ghost use Rattle.pad_top.specs.Status.{status_number};
 
+use file_edge::{ReaderSource, WriterSink};
 use pad_top::{Status, run};
-use reader_source::ReaderSource;
 use std::env;
 use std::io::{self, ErrorKind};
 use std::process::ExitCode;
-use writer_sink::WriterSink;
 
 fn main(rt: HostRuntime) -> ExitCode {
     let words = match words(&rt) {
@@ -23,8 +23,10 @@ fn main(rt: HostRuntime) -> ExitCode {
     exit(run(rt.alloc(), words.as_slice(), &mut input, &mut output))
 }
 
-/// The exit status of a status.
-fn exit(status: Status) -> ExitCode {
+/// The exit code that the process ends with: the number of the status.
+fn exit(status: Status) -> ExitCode
+    ensures { exit_status result ≡ status_number status }
+{
     ExitCode::from(status.number())
 }
 

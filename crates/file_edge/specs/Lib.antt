@@ -1,0 +1,2 @@
+pub mod FileVolume
+pub mod Lost
