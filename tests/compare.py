@@ -7,7 +7,7 @@ Each pad is a list of lines: patches of many operations that insert and remove, 
 patches that do not fit, for each reason; checkpoints at their distance and off it; forks, branches that pass the kept
 root, parents that come late or never, repeats, other spellings, and lines that spell no message. One more pad reaches
 the limits of a text and of a content. At the first report that differs, the lines are made fewer while it still does;
-what is left, and where the reports differ, is printed, and the status is 1.
+what is left, and how the reports differ, is printed, and the status is 1.
 """
 
 import argparse

@@ -92,7 +92,7 @@ class Unreadable(Exception):
 
 
 class Reader:
-    """Takes the parts of a message from a JSON text. White space may stand before each."""
+    """Takes the parts of a message from a JSON text. White space may come before each."""
 
     WHITE = (" ", "\t", "\n", "\r")
     SPACE = re.compile(r"[ \t\n\r]*")
@@ -413,7 +413,7 @@ def test_misfits():
             raise SystemExit(f"self-test: the misfit of {operations} is {misfit(message, text)}, and not {wanted}")
 
 
-def test_a_checkpoint_stands_at_its_distance():
+def test_a_checkpoint_is_sound_at_its_distance():
     pad = Replay()
     checkpoint(pad, insertions(pad, BASE, 48))
     expect(pad, height=48, kept=50)

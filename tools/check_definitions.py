@@ -1,7 +1,7 @@
 #!/usr/bin/env python3
 """Compares the public words of the crates' `specs/` with docs/DEFINITIONS.md, in both directions.
 
-Each public word of specs/ (those of specs/Lemmas/ and specs/Inside/ excepted) has to stand in backticks in its crate's
+Each public word of specs/ (those of specs/Lemmas/ and specs/Inside/ excepted) has to be in backticks in its crate's
 section of docs/DEFINITIONS.md or in crates/NAME/README.md. Each name in backticks in such a section has to occur in the
 specs/ or src/ of a crate. It prints what is missing, and then ends with status 1.
 """
@@ -35,7 +35,7 @@ def crates():
 
 
 def in_backticks(text):
-    """What stands in backticks outside blocks of code."""
+    """What is in backticks outside blocks of code."""
     return re.findall(r"`([^`\n]+)`", re.sub(r"^```.*?^```", "", text, flags=re.M | re.S))
 
 

@@ -1,7 +1,7 @@
 #!/usr/bin/env python3
 """Refuses imports of another crate's proofs, except of the one module that a crate offers to its callers.
 
-What a crate's proofs cite of another crate's stands in that crate's proofs/CallerLemmas.antt, or is a law: the contract of
+What a crate's proofs cite of another crate's is in that crate's proofs/CallerLemmas.antt, or is a law: the contract of
 a public function. It prints each other import of `Rattle.CRATE.proofs`, and then ends with status 1. The libraries of the
 kit are no crates of this repository, so their proofs may be cited.
 """
