@@ -35,7 +35,7 @@ def replay(contents):
     """The report, the seconds, and the peak memory in KiB of one run."""
     data = "".join(content + "\n" for content in contents).encode()
     reading, writing = os.pipe()
-    with subprocess.Popen([os.path.join(TOP, "padnet"), "replay"], stdin=subprocess.PIPE, stdout=writing) as run:
+    with subprocess.Popen([os.path.join(TOP, "crates", "padnet", "out", "padnet"), "replay"], stdin=subprocess.PIPE, stdout=writing) as run:
         os.close(writing)
         start = time.monotonic()
         run.stdin.write(data)
