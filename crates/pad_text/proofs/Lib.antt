@@ -1,3 +1,6 @@
 pub mod Texts
 pub mod HexDigits
 pub mod NameOrder
+pub mod Ascii
+pub mod Joins
+pub mod CallerLemmas

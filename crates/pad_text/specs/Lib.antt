@@ -4,3 +4,4 @@ pub mod Hash
 pub mod Digits
 pub mod Plain
 pub mod Place
+pub mod Joins

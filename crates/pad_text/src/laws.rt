@@ -1,4 +1,5 @@
 //! Laws of the definitions: each contract is the law, and there is nothing to do.
+ghost use Rattle.pad_text.specs.Joins.{IsKeptByJoins};
 ghost use Rattle.pad_text.specs.Name.{AreOrderedByDigits};
 ghost use Rattle.pad_text.specs.Text.{IsKeptByCuts, IsKeptByUtf8};
 
@@ -18,4 +19,10 @@ pub fn texts_are_kept_by_utf8()
 #[tactic(auto, using(crate::proofs::Texts::kept_by_cuts))]
 pub fn texts_are_kept_by_cuts()
     ensures { IsKeptByCuts }
+{}
+
+/// The UTF-8 of joined texts is theirs, joined, and no pair is cut where the first ends.
+#[tactic(auto, using(crate::proofs::Joins::kept_by_joins))]
+pub fn texts_are_kept_by_joins()
+    ensures { IsKeptByJoins }
 {}

@@ -1,6 +1,6 @@
 use super::{
     Name, Text, is_lower_hex, names_are_ordered_by_digits, plain, texts_are_kept_by_cuts,
-    texts_are_kept_by_utf8,
+    texts_are_kept_by_joins, texts_are_kept_by_utf8,
 };
 use std::test::Fail;
 
@@ -116,4 +116,5 @@ fn laws_are_called() {
     names_are_ordered_by_digits();
     texts_are_kept_by_utf8();
     texts_are_kept_by_cuts();
+    texts_are_kept_by_joins();
 }

@@ -4,6 +4,8 @@ ghost use Rattle.pad_text.specs.Hash.{document_hash};
 
 use crate::name::Name;
 use crate::pair::{is_first_of_pair, is_second_of_pair};
+use crate::utf8::feed_utf8;
+use sha2::{Digest, Sha256};
 use std::alloc::{AllocError, Global};
 use std::marker::Model;
 
@@ -118,7 +120,8 @@ impl Text {
     pub fn hash(&self, alloc: Global) -> Result<Name, AllocError>
         ensures { IfOk result (λ name. name ≡ document_hash self.now) }
     {
-        let string = self.to_string(alloc)?;
-        Ok(Name::of_bytes(string.as_bytes()))
+        let mut hasher = Sha256::new();
+        feed_utf8(alloc, self.units.as_slice(), &mut hasher)?;
+        Ok(Name(hasher.finalize()))
     }
 }

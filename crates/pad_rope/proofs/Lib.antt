@@ -1,0 +1,4 @@
+pub mod Ranges
+pub mod Heights
+pub mod Fronts
+pub mod Replaced

@@ -1,0 +1,5 @@
+pub mod Shape
+pub mod Tree
+pub mod TreeFalls
+pub mod Saved
+pub mod Rope
