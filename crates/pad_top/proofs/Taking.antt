@@ -7,7 +7,7 @@ use Rattle.pad_top.specs.declared.refused.ReplayRefused.{ReplayRefused}
 use Rattle.pad_top.specs.declared.refused.ReplayRefused.TheVariants as refused
 use Rattle.pad_top.specs.Line.{lines_of}
 use Rattle.pad_top.specs.Received.{LineSpells, ReadsAs, IsReceived, IsAccepted, Reaches}
-use Rattle.pad_top.specs.Progress.{Progress, Receives, progress_after, IsLineRefusal, IsLinesRefusal}
+use Rattle.pad_top.specs.Progress.{Progress, Receives, progress_after, IsMessageRefusal, IsLineRefusal, IsLinesRefusal}
 
 -- the lines of a text before the rest of it are received
 pub record IsSoFar (text rest : List ℕ) (progress : Progress) : Type 0 where
@@ -89,6 +89,14 @@ reaches text rest line after progress message so_far split accepted spelled = re
   taken = record { received = so_far.received; accepted = accepted };
   spelled = spelled;
 }
+
+-- a message that is not received stops a replay at its line
+pub line_refusal : (line : List ℕ) (messages : List Message) (message : Message) → LineSpells line message → (error : ReplayRefused) → IsMessageRefusal message messages error
+    → IsLineRefusal line messages error
+line_refusal line messages message spelled refused.ReadFault why = absurd why
+line_refusal line messages message spelled refused.Limit why = (message, spelled, why)
+line_refusal line messages message spelled refused.Unbuilt why = (message, spelled, why)
+line_refusal line messages message spelled (refused.NoMemory error) why = tt
 
 -- the line at which a replay stops
 pub IsLinesRefusal-at : (text rest line after : List ℕ) (progress : Progress) (error : ReplayRefused) → IsSoFar text rest progress → lines_of rest ≡ line ∷ lines_of after

@@ -1,9 +1,12 @@
 -- How the program that receives lines goes on, line by line.
-use Rattle.std.specs.Prelude.{◌≡◌, ◌≢◌, ⊤, ℕ, ◌+◌, ◌⊎◌, List, [], ◌∷◌, ◌++◌, Bool, true, Option, None, Some, Contains, MatchBool}
+use Rattle.std.specs.Prelude.{◌≡◌, ◌≢◌, ⊤, ℕ, ◌+◌, ◌<◌, ◌⊎◌, List, [], ◌∷◌, ◌++◌, length, Bool, true, false, Option, None, Some, Contains, MatchBool}
+use Rattle.std.specs.Str.{IsUtf8}
+use Rattle.pad_text.specs.Plain.{plain}
 use Rattle.pad_text.specs.declared.name.Name.{Name}
 use Rattle.pad_message.specs.Kind.{is_checkpoint}
 use Rattle.pad_message.specs.declared.message.Message.{Message}
 use Rattle.pad_message.specs.Message.{name_of}
+use Rattle.pad_message.specs.Content.{longest_content, without_mark}
 use Rattle.pad_model.specs.declared.base.Base.{Base}
 use Rattle.pad_model.specs.Count.{IsNumberOf, IsKnown}
 use Rattle.pad_top.specs.declared.refused.ReplayRefused.{ReplayRefused}
@@ -44,6 +47,10 @@ progress_after (Some message) before = record { messages = before.messages ++ me
 -- one more line was received
 abbrev pub Receives : List ℕ → Progress → Progress → Type 0
 Receives line old new = (outcome : Option Message) × ReadsAs line outcome × (new ≡ progress_after outcome old)
+
+-- a line that is found to be no message without memory: it is no UTF-8, too long, or not plain
+abbrev pub IsRefusedAtOnce : List ℕ → Type 0
+IsRefusedAtOnce line = ¬ (IsUtf8 line) ⊎ ((longest_content < length line) ⊎ (plain (without_mark line) ≡ false))
 
 -- why a message was not received
 abbrev pub IsMessageRefusal : Message → List Message → ReplayRefused → Type 0

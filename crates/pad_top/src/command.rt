@@ -1,4 +1,4 @@
-ghost use Rattle.std.specs.Prelude.{◌≡◌, ◌≢◌, ◌⊎◌, map, string_bytes, IfSome, IsSomeAnd};
+ghost use Rattle.std.specs.Prelude.{◌≡◌, ◌≢◌, ◌<◌, ◌⊎◌, map, string_bytes, IfSome, IsSomeAnd};
 ghost use Rattle.std.specs.Io.KnownBytes.{IsAtEnd};
 ghost use Rattle.pad_edge.specs.Count.{Rose};
 ghost use Rattle.pad_top.specs.Output.{Writes};
@@ -39,6 +39,14 @@ pub fn run<I: Source, O: Sink>(
         (O.written output.old) (O.written output.new) }
     ensures write_fault { result ≡ Status.WriteFault → Rose (O.faults output.old) (O.faults output.new) }
 
+    // Faults are told: a failed write before all else, and a failed read where no write failed.
+    ensures write_told { O.faults output.old < O.faults output.new → result ≡ Status.WriteFault }
+    ensures read_told { I.faults input.old < I.faults input.new
+        → (result ≡ Status.ReadFault) ⊎ (result ≡ Status.WriteFault) }
+
+    // With other words than a command's the input stands as it stood.
+    ensures untouched { ¬ (IsReplay (map string_bytes words.now)) → input.new ≡ input.old }
+
     // A replay that nothing stops is done to its end, or wants memory.
     ensures complete { IsReplay (map string_bytes words.now) → IsSomeAnd (I.left input.old) IsUnstopped
         → ¬ (Rose (I.faults input.old) (I.faults input.new)) → ¬ (Rose (O.faults output.old) (O.faults output.new))
@@ -58,7 +66,8 @@ pub fn run<I: Source, O: Sink>(
 
 /// Writes a text, and ends with a status.
 fn end<O: Sink>(output: &mut O, text: &[u8], status: Status) -> Status
-    ensures { let write_failed = Rose (O.faults output.old) (O.faults output.new) in
+    ensures told { O.faults output.old < O.faults output.new → result ≡ Status.WriteFault }
+    ensures end { let write_failed = Rose (O.faults output.old) (O.faults output.new) in
         IsEnd (O.written output.old) (O.written output.new) write_failed text.now status result }
 {
     match write_all(output, text) {

@@ -1,4 +1,4 @@
-ghost use Rattle.std.specs.Prelude.{◌≤◌, vec_len, IfOk, IfErr, OnOk};
+ghost use Rattle.std.specs.Prelude.{◌≡◌, ◌<◌, ◌≤◌, vec_len, Err, IfOk, IfErr, OnOk};
 ghost use Rattle.std.specs.Io.KnownBytes.{IsAtEnd};
 ghost use Rattle.pad_edge.specs.Count.{Rose};
 ghost use Rattle.pad_top.specs.Input.{most_bytes, IsToldAs};
@@ -20,6 +20,7 @@ pub(crate) fn read_all<I: Source>(alloc: Global, input: &mut I) -> Result<Vec<u8
     ensures within { IfOk result (λ bytes. vec_len bytes ≤ most_bytes) }
     ensures ended { OnOk result (IsAtEnd (I.left input.new)) }
     ensures refused { IfErr result (IsReadRefusal (I.left input.old) (Rose (I.faults input.old) (I.faults input.new))) }
+    ensures told { I.faults input.old < I.faults input.new → result ≡ Err ReplayRefused.ReadFault }
 {
     let mut bytes = Vec::new(alloc);
     let mut buf = [0; PIECE];

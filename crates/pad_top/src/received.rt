@@ -1,4 +1,4 @@
-ghost use Rattle.std.specs.Prelude.{◌≡◌, ◌<◌, ◌≤◌, ◌-◌, ◌^◌, ◌∷◌, ◌++◌, [], length, IfOk, IfErr, string_bytes};
+ghost use Rattle.std.specs.Prelude.{◌≡◌, ◌<◌, ◌≤◌, ◌-◌, ◌^◌, ◌∷◌, ◌++◌, [], length, Ok, None, IfOk, IfErr, string_bytes};
 ghost use Rattle.pad_message.specs.Content.{most_operations};
 ghost use Rattle.pad_message.specs.Kind.{HasInterval};
 ghost use Rattle.pad_model.specs.Path.{NamesDiffer};
@@ -39,7 +39,7 @@ impl Model for Received {
 
 impl Received {
     ghost use Rattle.pad_top.specs.Received.{first_base, IsAccepted};
-    ghost use Rattle.pad_top.specs.Progress.{Receives, IsMessageRefusal, IsLineRefusal, progress_after};
+    ghost use Rattle.pad_top.specs.Progress.{Receives, IsRefusedAtOnce, IsMessageRefusal, IsLineRefusal, progress_after};
 
     /// Nothing was received yet.
     pub(crate) fn new(alloc: Global) -> Received
@@ -69,6 +69,7 @@ impl Received {
         requires { self.unreadable < 2 ^ 64 - 1 }
         ensures received { IfOk result (Receives line.now self) }
         ensures refused { IfErr result (IsLineRefusal line.now self.messages) }
+        ensures at_once { IsRefusedAtOnce line.now → result ≡ Ok (progress_after None self) }
     {
         match read_line(alloc, line)? {
             Some(message) => self.with_message(alloc, message),

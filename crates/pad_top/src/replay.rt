@@ -1,4 +1,4 @@
-ghost use Rattle.std.specs.Prelude.{IfOk, IfErr, IfSome, OnOk, string_bytes};
+ghost use Rattle.std.specs.Prelude.{◌≡◌, ◌<◌, Err, IfOk, IfErr, IfSome, OnOk, string_bytes};
 ghost use Rattle.std.specs.Io.KnownBytes.{IsAtEnd};
 ghost use Rattle.pad_edge.specs.Count.{Rose};
 ghost use Rattle.pad_top.specs.Line.{lines_of};
@@ -19,6 +19,7 @@ pub(crate) fn replay<I: Source>(alloc: Global, input: &mut I) -> Result<String, 
     ensures report { IfOk result (λ text. IfSome (I.left input.old) (λ bytes. IsReplayed bytes (string_bytes text))) }
     ensures ended { OnOk result (IsAtEnd (I.left input.new)) }
     ensures refused { IfErr result (IsReplayRefusal (I.left input.old) (Rose (I.faults input.old) (I.faults input.new))) }
+    ensures told { I.faults input.old < I.faults input.new → result ≡ Err ReplayRefused.ReadFault }
 {
     let bytes = read_all(alloc, input)?;
     let received = receive_lines(alloc, bytes.as_slice())?;

@@ -11,11 +11,11 @@ use Rattle.pad_top.proofs.command.run.Goals as goal
 pub returns-then-not-is_replay-clause-part : goal.returns-then-not-is_replay-clause-part
 returns-then-not-is_replay-clause-part g c =
     let no_replay : ¬ (IsReplay (map string_bytes c.args.words.now)) = λ is. let both : false ≡ true = c.if-not-is_replay.ensures.1 is in cc in
-    cut_short _ _ _ _ _ _ _ _ _ c.end.ensures (no_replay, c.line.ensures)
+    cut_short _ _ _ _ _ _ _ _ _ c.end.ensures.end (no_replay, c.line.ensures)
 
 pub returns-in-Ok-clause-part : goal.returns-in-Ok-clause-part
 returns-in-Ok-clause-part g c =
-    cut_short _ _ _ _ _ _ _ _ _ c.end-in-Ok.ensures (
+    cut_short _ _ _ _ _ _ _ _ _ c.end-in-Ok.ensures.end (
       c.if-not-is_replay.ensures.0 refl,
       subst (λ text. IfSome (g.I.Source.left c.args.input.now) (λ bytes. IsReplayed bytes text)) (sym c.as_bytes.ensures.value) c.in-Ok.ensures.report,
     )
@@ -27,4 +27,4 @@ returns-in-Err-clause-part g c =
     let failed = Rose (g.I.Source.faults c.args.input.now) (g.I.Source.faults c.replay.new.input) in
     let ends = refusal_ends words left failed c.in-Err.refused (c.if-not-is_replay.ensures.0 refl) c.in-Err.ensures.refused in
     let at_status = subst (λ status. Ends words left failed status (status_line status)) (sym c.status-status.ensures) ends in
-    cut_short _ _ _ _ _ _ _ _ _ c.end-in-Err.ensures (subst (Ends words left failed c.status-status.result) (sym c.line-in-Err.ensures) at_status)
+    cut_short _ _ _ _ _ _ _ _ _ c.end-in-Err.ensures.end (subst (Ends words left failed c.status-status.result) (sym c.line-in-Err.ensures) at_status)
