@@ -1,6 +1,6 @@
 use thiserror::Error;
 
-/// The outside did not do what a call asked of it.
+/// A call to the outside did not do what it was asked for.
 #[derive(Clone, Copy, Debug, PartialEq, Eq, Error)]
-#[error("the outside failed")]
+#[error("a call to the outside failed")]
 pub struct Failed;

@@ -1,5 +1,19 @@
-//! The outside of the program as traits, with a count of faults and what is told of the bytes moved, and fakes in
-//! memory that tell all of it.
+//! What goes in and out of the program, as traits, and fakes in memory.
+//!
+//! A [`Source`] gives bytes, a [`Sink`] takes them, a [`Clock`] shows moments. A call on one fails only if its count of
+//! faults rose in that call, so a function over any source can say exactly when its own failure comes from outside. The
+//! fakes ([`MemSource`], [`MemSink`], [`MemClock`]) have their bytes, their failures and their moments in memory, and
+//! contracts know all of it. A caller reads until the end:
+//!
+//! ```text
+//! let mut buf = [0; 4096];
+//! loop {
+//!     match source.read(&mut buf)? {
+//!         0 => return Ok(()),
+//!         count => use_bytes(&buf[..count]),
+//!     }
+//! }
+//! ```
 #![tactic(auto)]
 
 mod calls;

@@ -8,8 +8,8 @@ use crate::failed::Failed;
 use crate::sink::Sink;
 use std::marker::Model;
 
-/// A sink in memory, some of whose writes fail. It tells what was written, and writes over the bytes of its room from
-/// the front.
+/// A sink in memory, some of whose writes fail. It writes over the bytes of its room from the front, and contracts know
+/// what was written.
 #[derive(Debug, Drop)]
 pub struct MemSink {
     room: Vec<u8>,
@@ -36,7 +36,7 @@ impl Model for MemSink {
 
 impl MemSink {
     /// A sink that can take as many bytes as `room` has, at most `piece` of them at a write. The writes whose numbers
-    /// are listed in `failing`, from 0, fail, and so does a write of a piece that is not empty where no room is left.
+    /// are listed in `failing`, from 0, fail, and so does a write of a piece that is not empty if no room is left.
     /// It only moves what it is given.
     pub fn new(room: Vec<u8>, piece: usize, failing: Vec<u64>) -> MemSink
         requires { 0 < piece }
@@ -69,7 +69,7 @@ impl Sink for MemSink {
         ensures grown { WriteAppends (Some self.old.written) (Some self.new.written) result piece.now }
         ensures cause { HasCause self.old.calls.faults self.new.calls.faults result }
 
-        // A write fails exactly where its number is listed or there is no room for a piece that is not empty, and else
+        // A write fails exactly if its number is listed or there is no room for a piece that is not empty, and else
         // takes all that it can.
         ensures fails { IsErr result ↔ (Contains self.old.calls.failing self.old.calls.made
             ⊎ ((self.old.room ≡ 0) × (0 < length piece.now))) }

@@ -10,7 +10,7 @@ use crate::source::Source;
 use crate::unread::Unread;
 use std::marker::Model;
 
-/// A source in memory, some of whose reads fail. It tells what is left.
+/// A source in memory, some of whose reads fail. Contracts know the bytes that are left.
 #[derive(Debug, Drop)]
 pub struct MemSource {
     unread: Unread,
@@ -54,7 +54,7 @@ impl Source for MemSource {
         ensures taken { ReadConsumes (Some self.old.left) (Some self.new.left) result buf.new }
         ensures cause { HasCause self.old.calls.faults self.new.calls.faults result }
 
-        // A read fails exactly where its number is listed, and else takes all that it can.
+        // A read fails exactly if its number is listed, and else takes all that it can.
         ensures fails { IsErr result ↔ Contains self.old.calls.failing self.old.calls.made }
         ensures most { IfOk result (λ count. count ≡ min self.old.piece (min (length buf.old) (length self.old.left))) }
         ensures counts { self.new.calls ≡ one_more self.old.calls (is_err result) }

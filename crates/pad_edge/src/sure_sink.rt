@@ -6,7 +6,8 @@ use crate::failed::Failed;
 use crate::sink::Sink;
 use std::marker::Model;
 
-/// A sink whose writes never fail. It keeps no byte and tells nothing, and its count of faults is the constant 0.
+/// A sink whose writes never fail. It keeps no byte, so contracts do not know what was written. Its count of faults is
+/// the constant 0.
 #[derive(Debug, Drop)]
 pub struct SureSink {
     piece: usize,

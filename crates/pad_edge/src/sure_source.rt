@@ -7,7 +7,8 @@ use crate::source::Source;
 use crate::unread::Unread;
 use std::marker::Model;
 
-/// A source in memory whose reads never fail. It tells what is left, and its count of faults is the constant 0.
+/// A source in memory whose reads never fail. Contracts know the bytes that are left, and its count of faults is the
+/// constant 0.
 #[derive(Debug, Drop)]
 pub struct SureSource {
     unread: Unread,

@@ -1,4 +1,6 @@
-use super::{Failed, MemSink, MemSource, Sink, Source, SureSink, SureSource, Wire, Wires};
+use super::{
+    Clock, Failed, MemClock, MemSink, MemSource, Sink, Source, SureSink, SureSource, Wire, Wires,
+};
 use std::test::Fail;
 
 fn read_from<S: Source>(source: &mut S, buf: &mut [u8]) -> Result<usize, Failed> {
@@ -7,6 +9,10 @@ fn read_from<S: Source>(source: &mut S, buf: &mut [u8]) -> Result<usize, Failed>
 
 fn write_to<S: Sink>(sink: &mut S, piece: &[u8]) -> Result<usize, Failed> {
     sink.write(piece)
+}
+
+fn now_of<C: Clock>(clock: &mut C) -> u64 {
+    clock.now()
 }
 
 #[test]
@@ -79,5 +85,24 @@ fn wires_lend_their_texts(rt: HostRuntime) -> Result<(), Fail> {
         wires.as_slice().first().map(|wire| wire.as_str()),
         Some("[7,\"PING\"]")
     );
+    Ok(())
+}
+
+#[test]
+fn a_clock_stays_at_its_last_moment(rt: HostRuntime) -> Result<(), Fail> {
+    let alloc = rt.alloc();
+    let mut clock = MemClock::new([7, 9].to_vec(alloc)?);
+    for want in [7, 9, 9] {
+        assert_eq!(rt; now_of(&mut clock), want);
+    }
+    assert_eq!(rt; now_of(&mut MemClock::new(Vec::new(alloc))), 0);
+    Ok(())
+}
+
+#[test]
+fn errors_name_their_cause(rt: HostRuntime) -> Result<(), Fail> {
+    for (error, want) in [(Failed, "a call to the outside failed")] {
+        assert_eq!(rt; format!(in rt.alloc(); "{}", error)?.as_str(), want);
+    }
     Ok(())
 }
