@@ -1,0 +1,15 @@
+mod Members
+mod Numbers
+mod Names
+mod Entries
+mod Loops
+mod Spreading
+mod Chains
+mod Marked
+mod Branches
+mod Growth
+mod Fields
+mod Starting
+mod Sorting
+mod Undone
+mod Dropping
