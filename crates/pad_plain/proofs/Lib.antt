@@ -1,0 +1,11 @@
+mod Tables
+mod Places
+mod Evaluated
+mod Candidates
+mod Throughs
+mod Cuts
+mod Choosing
+mod Counting
+mod Stepping
+mod Answering
+mod Reported

@@ -1,0 +1,4 @@
+pub mod Messages
+pub mod Tip
+pub mod Summary
+pub mod Inside
