@@ -1,6 +1,10 @@
 -- How a replay ends, and a run with it.
-use Rattle.std.proofs.Common.{◌≡◌, ℕ, ◌≤◌, inl, inr, List, length, Option, None, Some, IfSome, refl, sym, subst, ◌∙◌}
+use Rattle.std.proofs.Common.{◌≡◌, ℕ, ◌≤◌, inl, inr, List, length, reverse, Option, None, Some, IfSome, refl, sym, subst, ◌∙◌}
 use Rattle.pad_message.specs.declared.message.Message.{Message}
+use Rattle.pad_model.specs.Base.{first_base}
+use Rattle.pad_model.specs.Best.{IsBest}
+use Rattle.pad_model.specs.Laws.{SameMembers}
+use Rattle.pad_model.proofs.CallerLemmas.{differ_same, nothing_overtook, order_is_no_part, same_reversed}
 use Rattle.pad_model.specs.Path.{NamesDiffer}
 use Rattle.pad_model.specs.Report.{IsReport}
 use Rattle.pad_top.specs.declared.refused.ReplayRefused.{ReplayRefused}
@@ -9,7 +13,7 @@ use Rattle.pad_top.specs.declared.status.Status.{Status}
 use Rattle.pad_top.specs.declared.status.Status.TheVariants as status
 use Rattle.pad_top.specs.Input.{most_bytes, IsToldAs}
 use Rattle.pad_top.specs.Line.{lines_of}
-use Rattle.pad_top.specs.Received.{first_base, IsReceived, IsAccepted}
+use Rattle.pad_top.specs.Received.{IsReceived, HasFewNames}
 use Rattle.pad_top.specs.Refusal.{IsReplayRefusal, status_of}
 use Rattle.pad_top.specs.Replay.{IsReplayed}
 use Rattle.pad_top.specs.Run.{Ends, IsCutShort, IsEnd}
@@ -21,15 +25,25 @@ pub told : (left : Option (List ℕ)) (bytes : List ℕ) (P : List ℕ → Type 
 told None bytes P is holds = tt
 told (Some all) bytes P is holds = subst P (sym is) holds
 
+-- a report that says that nothing overtook tells the best chain
+pub tells_best : (messages : List Message) (unreadable : ℕ) (output : List ℕ) → NamesDiffer messages → (report : IsReport first_base messages unreadable output)
+    → report.choice.overtaken ≡ 0 → IsBest first_base messages report.choice.chosen
+tells_best messages unreadable output differ report none =
+    let turned = same_reversed messages in
+    let back : SameMembers (reverse messages) messages = λ message. ((turned message).1, (turned message).0) in
+    order_is_no_part first_base (reverse messages) messages report.choice.chosen back
+    (nothing_overtook first_base (reverse messages) report.choice (differ_same messages (reverse messages) turned differ) report.is_choice none)
+
 -- the report of what was received is that of the input
 pub replayed : (input output : List ℕ) (messages : List Message) (unreadable : ℕ) → length input ≤ most_bytes → IsReceived (lines_of input) messages unreadable
-    → IsAccepted messages → (NamesDiffer messages → IsReport first_base messages unreadable output) → IsReplayed input output
-replayed input output messages unreadable short received accepted report = record {
+    → HasFewNames messages → (NamesDiffer messages → IsReport first_base messages unreadable output) → IsReplayed input output
+replayed input output messages unreadable short received few report = record {
   short = short;
   messages = messages;
   unreadable = unreadable;
-  taken = record { received = received; accepted = accepted };
+  taken = record { received = received; names = few };
   report = report;
+  best = λ differ. tells_best messages unreadable output differ (report differ);
 }
 
 -- the end of a replay without a report
@@ -37,7 +51,6 @@ pub refusal_ends : (words : List (List ℕ)) (input : Option (List ℕ)) (read_f
     → Ends words input read_failed (status_of error) (status_line (status_of error))
 refusal_ends words input read_failed refused.ReadFault is why = (is, why, refl)
 refusal_ends words input read_failed refused.Limit is why = (is, why, refl)
-refusal_ends words input read_failed refused.Unbuilt is why = (is, why, refl)
 refusal_ends words input read_failed (refused.NoMemory error) is why = (is, refl)
 
 -- a run is cut short where the last write failed

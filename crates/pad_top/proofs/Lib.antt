@@ -1,6 +1,8 @@
 mod Ending
 mod LineLemmas
 mod Once
+mod Order
 mod Receiving
+mod Repeats
 mod Taking
 mod WordLemmas

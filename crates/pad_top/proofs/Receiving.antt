@@ -4,23 +4,18 @@ use Rattle.std.specs.Cmp.Lexicographic.{pointwise, bytes_decides}
 use Rattle.std.proofs.lemmas.Option.{get_or_from_slice_get, slice_get_within}
 use Rattle.std.proofs.lemmas.List.Elements.{All-push, Contains-push_cases}
 use Rattle.pad_text.specs.declared.name.Name.{Name}
-use Rattle.pad_text.specs.Text.{IsText}
-use Rattle.pad_text.proofs.Texts.{kept_by_cuts}
-use Rattle.pad_message.specs.Kind.{is_checkpoint}
 use Rattle.pad_message.specs.declared.message.Message.{Message}
 use Rattle.pad_message.specs.Message.{name_of}
 use Rattle.pad_model.specs.declared.base.Base.{Base}
 use Rattle.pad_model.specs.Path.{NamesDiffer}
 use Rattle.pad_model.specs.Report.{IsReport}
-use Rattle.pad_model.specs.Count.{NoRepeat, IsNumberOf, IsKnown}
-use Rattle.pad_model.specs.Messages.{IsPlaceOf}
-use Rattle.pad_model.proofs.Members.{contains_head, contains_more, contains_none, distinct_short}
-use Rattle.pad_top.specs.Received.{first_base, most_names, HasFewNames, IsAccepted, IsOneTooMany}
+use Rattle.pad_model.specs.Base.{first_base}
+use Rattle.pad_model.specs.Number.{NoRepeat, IsNumberOf}
+use Rattle.pad_model.specs.Count.{IsKnown}
+use Rattle.pad_plain.specs.Messages.{IsPlaceOf}
+use Rattle.pad_model.proofs.CallerLemmas.{contains_head, contains_more, contains_none, distinct_short}
+use Rattle.pad_top.specs.Received.{most_names, HasFewNames, IsOneTooMany}
 use Rattle.pad_top.specs.Progress.{Progress, IsInside, IsFull, HasRoom, TestsRoom}
-
--- no units are a text
-pub IsText-nil : (units : List ℕ) → units ≡ [] → IsText units
-IsText-nil units none = subst IsText (sym none) kept_by_cuts.empty
 
 -- the report of what was received is one from the first base on
 pub report_from_first : (base : Base) (messages : List Message) (unreadable : ℕ) (progress : Progress) (text : List ℕ) → base ≡ first_base → record { messages = messages; unreadable = unreadable } ≡ progress
@@ -29,20 +24,14 @@ report_from_first base messages unreadable progress text first same report diffe
     subst (λ b. IsReport b progress.messages progress.unreadable text) first
     (subst (λ (p : Progress). NamesDiffer p.messages → IsReport base p.messages p.unreadable text) same report differ)
 
--- no messages are accepted
-pub IsAccepted-nil : IsAccepted []
-IsAccepted-nil = record { patches = λ k d less. absurd (omega (arith, less)); names = none }
-  where
-    none : (names : List Name) → NoRepeat names → ((name : Name) → Contains names name → IsKnown first_base [] name) → length names ≤ most_names
-    none [] once known = omega arith
-    none (name ∷ names) once known = let has = known name (contains_head name names) in absurd (contains_none has.0 has.1)
+-- no messages have few names
+pub HasFewNames-nil : HasFewNames []
+HasFewNames-nil [] once known = omega arith
+HasFewNames-nil (name ∷ names) once known = let has = known name (contains_head name names) in absurd (contains_none has.0 has.1)
 
 -- the first base, and no messages
-pub IsInside-nil : (base : Base) (messages : List Message) → base.name ≡ first_base.name → base.text ≡ [] → messages ≡ [] → IsInside base messages
-IsInside-nil base messages name text none = record {
-  first = ap (λ (n : Name). record { name = n; text = base.text }) name ∙ ap (λ (units : List ℕ). record { name = first_base.name; text = units }) text;
-  accepted = subst IsAccepted (sym none) IsAccepted-nil;
-}
+pub IsInside-nil : (base : Base) (messages : List Message) → base ≡ first_base → messages ≡ [] → IsInside base messages
+IsInside-nil base messages first none = record { first = first; names = subst HasFewNames (sym none) HasFewNames-nil }
 
 -- a name that one more message makes known is its name, or was known before
 known_cases : (messages : List Message) (message : Message) (name : Name) → IsKnown first_base (messages ++ message ∷ []) name
@@ -63,7 +52,7 @@ room_by_place base messages name number same None true known most test told plac
 }
 room_by_place base messages name number same None false known most test told place e = absurd (true≢false (sym e))
 room_by_place base messages name number same (Some index) true known most test told place e = absurd (true≢false e)
-room_by_place base messages name number same (Some index) false known most test told (message, at, named) e = record {
+room_by_place base messages name number same (Some index) false known most test told (message, at, named, first) e = record {
   number = number;
   known = known;
   room = inr (inr (message, (index, slice_get_within messages index message at, get_or_from_slice_get messages index message message at), named));
@@ -97,18 +86,15 @@ few_more messages message few room names once known = go room.room
     go (inr (inr (other, has, same))) = few names once (old (λ name here not_base. (other, has, same ∙ here, not_base)))
 
 pub IsInside-more : (base : Base) (messages : List Message) (message : Message) (name : Name) → IsInside base messages → name ≡ name_of message → HasRoom base messages name
-    → is_checkpoint message.kind ≡ false → IsInside base (messages ++ message ∷ [])
-IsInside-more base messages message name inside is room patch = record {
+    → IsInside base (messages ++ message ∷ [])
+IsInside-more base messages message name inside is room = record {
   first = inside.first;
-  accepted = record {
-    patches = All-push (λ m. is_checkpoint m.kind ≡ false) messages message inside.accepted.patches patch;
-    names = few_more messages message inside.accepted.names (subst (λ b. HasRoom b messages (name_of message)) inside.first (subst (HasRoom base messages) is room));
-  };
+  names = few_more messages message inside.names (subst (λ b. HasRoom b messages (name_of message)) inside.first (subst (HasRoom base messages) is room));
 }
 
 -- a message for which there is no room
 pub one_too_many : (base : Base) (messages : List Message) (message : Message) (name : Name) → IsInside base messages → name ≡ name_of message → IsFull base messages name
-    → is_checkpoint message.kind ≡ false → IsAccepted messages × IsOneTooMany messages message
-one_too_many base messages message name inside is full patch =
+    → HasFewNames messages × IsOneTooMany messages message
+one_too_many base messages message name inside is full =
     let told = subst (λ b. IsFull b messages (name_of message)) inside.first (subst (IsFull base messages) is full) in
-    (inside.accepted, record { patch = patch; full = told.full; not_base = told.not_base; new = told.new })
+    (inside.names, record { full = told.full; not_base = told.not_base; new = told.new })

@@ -6,7 +6,7 @@ use Rattle.pad_message.specs.declared.message.Message.{Message}
 use Rattle.pad_top.specs.declared.refused.ReplayRefused.{ReplayRefused}
 use Rattle.pad_top.specs.declared.refused.ReplayRefused.TheVariants as refused
 use Rattle.pad_top.specs.Line.{lines_of}
-use Rattle.pad_top.specs.Received.{LineSpells, ReadsAs, IsReceived, IsAccepted, Reaches}
+use Rattle.pad_top.specs.Received.{LineSpells, ReadsAs, IsReceived, HasFewNames, Reaches}
 use Rattle.pad_top.specs.Progress.{Progress, Receives, progress_after, IsMessageRefusal, IsLineRefusal, IsLinesRefusal}
 
 -- the lines of a text before the rest of it are received
@@ -79,14 +79,14 @@ IsReceived-end text rest progress so_far none =
 
 -- the lines before one are taken
 reaches : (text rest line after : List ℕ) (progress : Progress) (message : Message) → IsSoFar text rest progress → lines_of rest ≡ line ∷ lines_of after
-    → IsAccepted progress.messages → LineSpells line message → Reaches (lines_of text) progress.messages message
-reaches text rest line after progress message so_far split accepted spelled = record {
+    → HasFewNames progress.messages → LineSpells line message → Reaches (lines_of text) progress.messages message
+reaches text rest line after progress message so_far split few spelled = record {
   before = so_far.before;
   line = line;
   after = lines_of after;
   parts = so_far.parts ∙ ap (λ lines. so_far.before ++ lines) split;
   unreadable = progress.unreadable;
-  taken = record { received = so_far.received; accepted = accepted };
+  taken = record { received = so_far.received; names = few };
   spelled = spelled;
 }
 
@@ -95,7 +95,6 @@ pub line_refusal : (line : List ℕ) (messages : List Message) (message : Messag
     → IsLineRefusal line messages error
 line_refusal line messages message spelled refused.ReadFault why = absurd why
 line_refusal line messages message spelled refused.Limit why = (message, spelled, why)
-line_refusal line messages message spelled refused.Unbuilt why = (message, spelled, why)
 line_refusal line messages message spelled (refused.NoMemory error) why = tt
 
 -- the line at which a replay stops
@@ -103,7 +102,5 @@ pub IsLinesRefusal-at : (text rest line after : List ℕ) (progress : Progress) 
     → IsLineRefusal line progress.messages error → IsLinesRefusal (lines_of text) error
 IsLinesRefusal-at text rest line after progress refused.ReadFault so_far split told = absurd told
 IsLinesRefusal-at text rest line after progress refused.Limit so_far split (message, spelled, why) =
-    (progress.messages, message, reaches text rest line after progress message so_far split why.0 spelled, why.1)
-IsLinesRefusal-at text rest line after progress refused.Unbuilt so_far split (message, spelled, why) =
     (progress.messages, message, reaches text rest line after progress message so_far split why.0 spelled, why.1)
 IsLinesRefusal-at text rest line after progress (refused.NoMemory error) so_far split told = tt

@@ -1,27 +1,28 @@
 -- How the program that receives lines goes on, line by line.
-use Rattle.std.specs.Prelude.{◌≡◌, ◌≢◌, ⊤, ℕ, ◌+◌, ◌<◌, ◌⊎◌, List, [], ◌∷◌, ◌++◌, length, Bool, true, false, Option, None, Some, Contains, MatchBool}
+use Rattle.std.specs.Prelude.{◌≡◌, ◌≢◌, ⊤, ℕ, ◌+◌, ◌<◌, ◌⊎◌, List, [], ◌∷◌, ◌++◌, length, Bool, false, Option, None, Some, Contains, MatchBool}
 use Rattle.std.specs.Str.{IsUtf8}
 use Rattle.pad_text.specs.Plain.{plain}
 use Rattle.pad_text.specs.declared.name.Name.{Name}
-use Rattle.pad_message.specs.Kind.{is_checkpoint}
 use Rattle.pad_message.specs.declared.message.Message.{Message}
 use Rattle.pad_message.specs.Message.{name_of}
 use Rattle.pad_message.specs.Content.{longest_content, without_mark}
 use Rattle.pad_model.specs.declared.base.Base.{Base}
-use Rattle.pad_model.specs.Count.{IsNumberOf, IsKnown}
+use Rattle.pad_model.specs.Base.{first_base}
+use Rattle.pad_model.specs.Number.{IsNumberOf}
+use Rattle.pad_model.specs.Count.{IsKnown}
 use Rattle.pad_top.specs.declared.refused.ReplayRefused.{ReplayRefused}
 use Rattle.pad_top.specs.declared.refused.ReplayRefused.TheVariants as refused
-use Rattle.pad_top.specs.Received.{first_base, most_names, LineSpells, ReadsAs, IsAccepted, IsOneTooMany, MeetsCheckpoint, MeetsOneTooMany}
+use Rattle.pad_top.specs.Received.{most_names, LineSpells, ReadsAs, HasFewNames, IsOneTooMany, MeetsOneTooMany}
 
 -- what was received so far
 pub record Progress : Type 0 where
   pub messages : List Message
   pub unreadable : ℕ
 
--- the base is the first one, and the messages are accepted
+-- the base is the first one, and there are not too many names
 pub record IsInside (base : Base) (messages : List Message) : Type 0 where
   pub first : base ≡ first_base
-  pub accepted : IsAccepted messages
+  pub names : HasFewNames messages
 
 -- a message of this name would bring one name too many
 pub record IsFull (base : Base) (messages : List Message) (name : Name) : Type 0 where
@@ -55,20 +56,17 @@ IsRefusedAtOnce line = ¬ (IsUtf8 line) ⊎ ((longest_content < length line) ⊎
 -- why a message was not received
 abbrev pub IsMessageRefusal : Message → List Message → ReplayRefused → Type 0
 IsMessageRefusal message messages refused.ReadFault = ⊥
-IsMessageRefusal message messages refused.Limit = IsAccepted messages × IsOneTooMany messages message
-IsMessageRefusal message messages refused.Unbuilt = IsAccepted messages × (is_checkpoint message.kind ≡ true)
+IsMessageRefusal message messages refused.Limit = HasFewNames messages × IsOneTooMany messages message
 IsMessageRefusal message messages (refused.NoMemory error) = ⊤
 
 -- why a line was not received
 abbrev pub IsLineRefusal : List ℕ → List Message → ReplayRefused → Type 0
 IsLineRefusal line messages refused.ReadFault = ⊥
 IsLineRefusal line messages refused.Limit = (message : Message) × LineSpells line message × IsMessageRefusal message messages refused.Limit
-IsLineRefusal line messages refused.Unbuilt = (message : Message) × LineSpells line message × IsMessageRefusal message messages refused.Unbuilt
 IsLineRefusal line messages (refused.NoMemory error) = ⊤
 
 -- why the lines were not received to their end
 abbrev pub IsLinesRefusal : List (List ℕ) → ReplayRefused → Type 0
 IsLinesRefusal lines refused.ReadFault = ⊥
 IsLinesRefusal lines refused.Limit = MeetsOneTooMany lines
-IsLinesRefusal lines refused.Unbuilt = MeetsCheckpoint lines
 IsLinesRefusal lines (refused.NoMemory error) = ⊤

@@ -1,22 +1,19 @@
 -- What is received of the lines of an input.
-use Rattle.std.specs.Prelude.{◌≡◌, ◌≢◌, ℕ, ◌≤◌, List, [], ◌∷◌, ◌++◌, length, replicate, Option, None, Some, is_none, true, false, All, count_by, Contains}
+use Rattle.std.specs.Prelude.{◌≡◌, ◌≢◌, ℕ, ◌≤◌, List, ◌∷◌, ◌++◌, length, Option, None, Some, is_none, count_by, Contains}
 use Rattle.std.specs.Str.{IsUtf8}
 use Rattle.std.specs.List.{AllZip, filter_map}
 use Rattle.pad_text.specs.declared.name.Name.{Name}
-use Rattle.pad_message.specs.Kind.{is_checkpoint}
 use Rattle.pad_message.specs.declared.message.Message.{Message}
 use Rattle.pad_message.specs.Message.{name_of}
 use Rattle.pad_message.specs.Content.{Reads}
-use Rattle.pad_model.specs.declared.base.Base.{Base}
-use Rattle.pad_model.specs.Count.{NoRepeat, IsNumberOf, IsKnown}
-
--- the base that a replay begins at: its name is sixty-four zeros, and its text is empty
-abbrev pub first_base : Base
-first_base = record { name = record { 0 = replicate 32 0 }; text = [] }
+use Rattle.pad_top.specs.declared.received.TheConstants.{MOST_NAMES}
+use Rattle.pad_model.specs.Base.{first_base}
+use Rattle.pad_model.specs.Number.{NoRepeat, IsNumberOf}
+use Rattle.pad_model.specs.Count.{IsKnown}
 
 -- the most different names that a replay receives, the base's excepted
 abbrev pub most_names : ℕ
-most_names = 1048576
+most_names = MOST_NAMES
 
 -- the line spells a message: it is UTF-8, and reads as a content
 abbrev pub LineSpells : List ℕ → Message → Type 0
@@ -38,19 +35,13 @@ pub record IsReceived (lines : List (List ℕ)) (messages : List Message) (unrea
 abbrev pub HasFewNames : List Message → Type 0
 HasFewNames messages = (names : List Name) → NoRepeat names → ((name : Name) → Contains names name → IsKnown first_base messages name) → length names ≤ most_names
 
--- a replay receives these messages: none of them is a checkpoint, and there are not too many names
-pub record IsAccepted (messages : List Message) : Type 0 where
-  pub patches : All (λ message. is_checkpoint message.kind ≡ false) messages
-  pub names : HasFewNames messages
-
 -- a replay receives the lines to their end
 pub record IsTaken (lines : List (List ℕ)) (messages : List Message) (unreadable : ℕ) : Type 0 where
   pub received : IsReceived lines messages unreadable
-  pub accepted : IsAccepted messages
+  pub names : HasFewNames messages
 
 -- the name of the message would be one too many
 pub record IsOneTooMany (messages : List Message) (message : Message) : Type 0 where
-  pub patch : is_checkpoint message.kind ≡ false
   pub full : IsNumberOf (IsKnown first_base messages) most_names
   pub not_base : name_of message ≢ first_base.name
   pub new : (known : Message) → Contains messages known → name_of known ≢ name_of message
@@ -65,10 +56,6 @@ pub record Reaches (lines : List (List ℕ)) (messages : List Message) (message 
   pub taken : IsTaken before messages unreadable
   pub spelled : LineSpells line message
 
--- the first line at which a replay stops reads as a checkpoint
-abbrev pub MeetsCheckpoint : List (List ℕ) → Type 0
-MeetsCheckpoint lines = (messages : List Message) × (message : Message) × Reaches lines messages message × (is_checkpoint message.kind ≡ true)
-
--- the first line at which a replay stops brings one name too many
+-- some line is the first that brings one name too many
 abbrev pub MeetsOneTooMany : List (List ℕ) → Type 0
 MeetsOneTooMany lines = (messages : List Message) × (message : Message) × Reaches lines messages message × IsOneTooMany messages message

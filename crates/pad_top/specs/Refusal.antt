@@ -5,25 +5,22 @@ use Rattle.pad_top.specs.declared.refused.ReplayRefused.TheVariants as refused
 use Rattle.pad_top.specs.declared.status.Status.{Status}
 use Rattle.pad_top.specs.declared.status.Status.TheVariants as status
 use Rattle.pad_top.specs.Input.{most_bytes}
-use Rattle.pad_top.specs.Replay.{IsPastLimit, IsUnbuilt}
+use Rattle.pad_top.specs.Replay.{IsPastLimit}
 
 -- why the input was not read to its end
 abbrev pub IsReadRefusal : Option (List ℕ) → Type 0 → ReplayRefused → Type 0
 IsReadRefusal input read_failed refused.ReadFault = read_failed
 IsReadRefusal input read_failed refused.Limit = IfSome input (λ bytes. most_bytes < length bytes)
-IsReadRefusal input read_failed refused.Unbuilt = ⊥
 IsReadRefusal input read_failed (refused.NoMemory error) = ⊤
 
 -- why a replay has no report; `read_failed` says that a read failed, and what is said of the input holds where it is told
 abbrev pub IsReplayRefusal : Option (List ℕ) → Type 0 → ReplayRefused → Type 0
 IsReplayRefusal input read_failed refused.ReadFault = read_failed
 IsReplayRefusal input read_failed refused.Limit = IfSome input IsPastLimit
-IsReplayRefusal input read_failed refused.Unbuilt = IfSome input IsUnbuilt
 IsReplayRefusal input read_failed (refused.NoMemory error) = ⊤
 
 -- the status of a replay without a report
 abbrev pub status_of : ReplayRefused → Status
 status_of refused.ReadFault = status.ReadFault
 status_of refused.Limit = status.Limit
-status_of refused.Unbuilt = status.Unbuilt
 status_of (refused.NoMemory error) = status.NoMemory

@@ -4,7 +4,7 @@ use Rattle.std.specs.Io.KnownBytes.{Appends}
 use Rattle.pad_top.specs.declared.status.Status.{Status}
 use Rattle.pad_top.specs.declared.status.Status.TheVariants as status
 use Rattle.pad_top.specs.Output.{AppendsPart, WritesPart}
-use Rattle.pad_top.specs.Replay.{IsReplayed, IsPastLimit, IsUnbuilt}
+use Rattle.pad_top.specs.Replay.{IsReplayed, IsPastLimit}
 use Rattle.pad_top.specs.Status.{status_line}
 use Rattle.pad_top.specs.Words.{IsReplay}
 
@@ -17,7 +17,6 @@ Ends words input read_failed status.ReadFault output = IsReplay words × read_fa
 Ends words input read_failed status.WriteFault output = ⊥
 Ends words input read_failed status.Limit output = IsReplay words × IfSome input IsPastLimit × (output ≡ status_line status.Limit)
 Ends words input read_failed status.NoMemory output = IsReplay words × (output ≡ [])
-Ends words input read_failed status.Unbuilt output = IsReplay words × IfSome input IsUnbuilt × (output ≡ status_line status.Unbuilt)
 
 -- a run that a failed write stopped wrote a part from the front of what it would have written
 abbrev pub IsCutShort : List (List ℕ) → Option (List ℕ) → Type 0 → Option (List ℕ) → Option (List ℕ) → Type 0

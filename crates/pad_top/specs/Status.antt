@@ -12,7 +12,6 @@ status_line status.ReadFault = codes "read fault" ++ newline ∷ []
 status_line status.WriteFault = []
 status_line status.Limit = codes "limit" ++ newline ∷ []
 status_line status.NoMemory = []
-status_line status.Unbuilt = codes "not built" ++ newline ∷ []
 
 -- the number that a program ends with
 abbrev pub status_number : Status → ℕ
@@ -22,4 +21,3 @@ status_number status.ReadFault = 3
 status_number status.WriteFault = 4
 status_number status.Limit = 7
 status_number status.NoMemory = 9
-status_number status.Unbuilt = 12

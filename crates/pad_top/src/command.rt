@@ -2,7 +2,7 @@ ghost use Rattle.std.specs.Prelude.{◌≡◌, ◌≢◌, ◌<◌, ◌⊎◌, ma
 ghost use Rattle.std.specs.Io.KnownBytes.{IsAtEnd};
 ghost use Rattle.pad_edge.specs.Count.{Rose};
 ghost use Rattle.pad_top.specs.Output.{Writes};
-ghost use Rattle.pad_top.specs.Replay.{IsReplayed, IsUnstopped};
+ghost use Rattle.pad_top.specs.Replay.{IsReplayed, IsPastLimit};
 ghost use Rattle.pad_top.specs.Run.{Ends, IsCutShort, IsEnd};
 ghost use Rattle.pad_top.specs.Words.{IsReplay};
 
@@ -47,8 +47,8 @@ pub fn run<I: Source, O: Sink>(
     // With other words than a command's the input stands as it stood.
     ensures untouched { ¬ (IsReplay (map string_bytes words.now)) → input.new ≡ input.old }
 
-    // A replay that nothing stops is done to its end, or wants memory.
-    ensures complete { IsReplay (map string_bytes words.now) → IsSomeAnd (I.left input.old) IsUnstopped
+    // A replay of an input that is past no limit is done to its end, or wants memory.
+    ensures complete { IsReplay (map string_bytes words.now) → IsSomeAnd (I.left input.old) (λ bytes. ¬ (IsPastLimit bytes))
         → ¬ (Rose (I.faults input.old) (I.faults input.new)) → ¬ (Rose (O.faults output.old) (O.faults output.new))
         → (result ≡ Status.Ok) ⊎ (result ≡ Status.NoMemory) }
 {

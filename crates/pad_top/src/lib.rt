@@ -14,8 +14,12 @@ mod status;
 mod words;
 
 pub use command::run;
-pub use laws::{inputs_end_once, lines_are_received_once};
+pub use laws::{
+    inputs_end_once, lines_are_received_once, order_changes_no_best, repeats_change_nothing,
+};
 pub use status::Status;
 
+#[cfg(test)]
+mod checkpoint_tests;
 #[cfg(test)]
 mod tests;

@@ -8,8 +8,9 @@ ghost use Rattle.pad_top.specs.Progress.{TestsRoom};
 use crate::read_line::read_line;
 use crate::refused::ReplayRefused;
 use pad_message::Message;
-use pad_model::{Base, Messages, report};
-use pad_text::{Name, Text};
+use pad_model::Base;
+use pad_plain::{Messages, report};
+use pad_text::Name;
 use std::alloc::{AllocError, Global};
 use std::marker::Model;
 
@@ -38,7 +39,8 @@ impl Model for Received {
 }
 
 impl Received {
-    ghost use Rattle.pad_top.specs.Received.{first_base, IsAccepted};
+    ghost use Rattle.pad_model.specs.Base.{first_base};
+    ghost use Rattle.pad_top.specs.Received.{HasFewNames};
     ghost use Rattle.pad_top.specs.Progress.{Receives, IsRefusedAtOnce, IsMessageRefusal, IsLineRefusal, progress_after};
 
     /// Nothing was received yet.
@@ -46,10 +48,7 @@ impl Received {
         ensures { result ≡ record { messages = []; unreadable = 0 } }
     {
         Received {
-            base: Base {
-                name: Name::BASE,
-                text: Text::from_units(Vec::new(alloc)),
-            },
+            base: Base::first(alloc),
             messages: Messages::new(alloc),
             unreadable: 0,
         }
@@ -59,7 +58,7 @@ impl Received {
     pub(crate) fn report(&self, alloc: Global) -> Result<String, AllocError>
         ensures report { IfOk result (λ report. NamesDiffer self.now.messages
             → IsReport first_base self.now.messages self.now.unreadable (string_bytes report)) }
-        ensures accepted { IsAccepted self.now.messages }
+        ensures few { HasFewNames self.now.messages }
     {
         report(alloc, &self.base, &self.messages, self.unreadable)
     }
@@ -106,9 +105,6 @@ impl Received {
             mut messages,
             unreadable,
         } = self;
-        if message.kind.is_checkpoint() {
-            return Err(ReplayRefused::Unbuilt);
-        }
         let name = message.name(alloc)?;
         if is_one_too_many(&base, &messages, &name) {
             return Err(ReplayRefused::Limit);

@@ -14,9 +14,6 @@ pub(crate) enum ReplayRefused {
     /// The input has more bytes, or more different names, than a run takes.
     #[error("the input is past a limit")]
     Limit,
-    /// A line of the input reads as a checkpoint.
-    #[error("checkpoints are not built")]
-    Unbuilt,
     /// There was not enough memory.
     #[error(transparent)]
     NoMemory(AllocError),
@@ -40,7 +37,6 @@ impl ReplayRefused {
         match self {
             ReplayRefused::ReadFault => Status::ReadFault,
             ReplayRefused::Limit => Status::Limit,
-            ReplayRefused::Unbuilt => Status::Unbuilt,
             ReplayRefused::NoMemory(_) => Status::NoMemory,
         }
     }

@@ -16,8 +16,6 @@ pub enum Status {
     Limit,
     /// There was not enough memory.
     NoMemory,
-    /// The input asks for what is not built yet.
-    Unbuilt,
 }
 
 impl Status {
@@ -32,7 +30,6 @@ impl Status {
             Status::WriteFault => 4,
             Status::Limit => 7,
             Status::NoMemory => 9,
-            Status::Unbuilt => 12,
         }
     }
 
@@ -45,7 +42,6 @@ impl Status {
             Status::Usage => b"usage\n",
             Status::ReadFault => b"read fault\n",
             Status::Limit => b"limit\n",
-            Status::Unbuilt => b"not built\n",
         }
     }
 }

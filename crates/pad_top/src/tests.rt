@@ -74,7 +74,7 @@ fn line_of(alloc: Global, letter: char) -> Result<String, AllocError> {
         'y' => message(alloc, "1", "y", X_HASH, X_NAME),
         'z' => message(alloc, "2", "z", XY_HASH, XY_NAME),
 
-        // a checkpoint
+        // a checkpoint on the base
         'k' => format!(in alloc; "[4,[[0,0,\"\"],\"{EMPTY_HASH}\"],\"{BASE}\"]"),
 
         // no messages: signs, fractions and exponents, another kind, two marks, and an empty line
@@ -214,6 +214,9 @@ fn replays_report_the_best_chain(rt: HostRuntime) -> Result<(), Fail> {
         // lines that read as no message
         ("zyatx sfe", Best::Abc, [4, 0, 5, 5]),
         ("m  ad", Best::AbcEnd, [2, 0, 3, 3]),
+        // a checkpoint on the base is linked and not sound
+        ("k", Best::Base, [1, 0, 0, 2]),
+        ("kad", Best::AbcEnd, [3, 0, 0, 4]),
     ] {
         let input = input_of(alloc, letters)?;
         expect_report(&rt, input.as_bytes(), best, counts)?;
@@ -245,19 +248,39 @@ fn last_lines_need_no_newline_and_lines_need_be_utf8(rt: HostRuntime) -> Result<
     Ok(())
 }
 
+/// Lines that read as no message: brackets that nest too deep, a byte that is no UTF-8, a digit in upper case, a number
+/// that is too great, and intervals that a checkpoint may not have.
+const UNREADABLE: [&str; 8] = [
+    "[2,[[0,0,\"abc\"],\"e3B0c44298fc1c149afbf4c8996fb92427ae41e4649b934ca495991b7852b855\"],\"Z\"]",
+    "[2,[[4294967296,0,\"abc\"],\"E\"],\"Z\"]",
+    "[4,[[0,0,\"\"],\"E\"],\"Z\",9]",
+    "[4,[[0,0,\"\"],\"E\"],\"Z\",1001]",
+    "[4,[[0,0,\"\"],\"E\"],\"Z\",10.0]",
+    "[4,[[0,0,\"\"],\"E\"],\"Z\",-10]",
+    "[4,[[0,0,\"\"],\"E\"],\"Z\",50,50]",
+    "[2,[[0,0,\"abc\"],\"E\"],\"Z\",50]",
+];
+
 #[test]
-fn checkpoints_are_not_built(rt: HostRuntime) -> Result<(), Fail> {
+fn unreadable_lines_are_counted(rt: HostRuntime) -> Result<(), Fail> {
     let alloc = rt.alloc();
-    for letters in ["k", "a hk", "kad"] {
-        let input = input_of(alloc, letters)?;
-        let (status, output) = ran(alloc, "replay", input.as_bytes())?;
-        assert_eq!(rt; status, Status::Unbuilt, "at {letters:?}");
-        assert_eq!(rt;
-            output.as_slice(),
-            b"not built\n".as_slice(),
-            "at {letters:?}"
-        );
+    let mut input = line_of(alloc, 'a')?.as_bytes().to_vec(alloc)?;
+    input.extend_from_slice(b"\n\xff\n")?;
+    input.extend_from_slice("[".repeat(alloc, 200)?.as_bytes())?;
+    for line in UNREADABLE {
+        input.extend_from_slice(b"\n")?;
+        for c in line.chars() {
+            match c {
+                'E' => input.extend_from_slice(EMPTY_HASH.as_bytes())?,
+                'Z' => input.extend_from_slice(BASE.as_bytes())?,
+                _ => {
+                    let mut room = [0; 4];
+                    input.extend_from_slice(c.encode_utf8(&mut room).as_bytes())?;
+                }
+            }
+        }
     }
+    expect_report(&rt, input.as_slice(), Best::Abc, [1, 0, 10, 2])?;
     Ok(())
 }
 
@@ -316,7 +339,6 @@ fn statuses_have_their_numbers(rt: HostRuntime) {
         (Status::WriteFault, 4),
         (Status::Limit, 7),
         (Status::NoMemory, 9),
-        (Status::Unbuilt, 12),
     ] {
         assert_eq!(rt; status.number(), number);
     }

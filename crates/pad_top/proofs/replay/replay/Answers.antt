@@ -14,4 +14,4 @@ returns-clause-report g c =
     (replayed bytes (string_bytes c.in_ok-text.text) received.messages received.unreadable
     (omega (arith, c.in_ok-bytes.ensures.within, ap length c.as_slice.ensures.value, c.as_slice.ensures.len))
     (subst (λ text. IsReceived (lines_of text) received.messages received.unreadable) c.as_slice.ensures.value c.in_ok-received.ensures.received)
-    c.report.ensures.accepted c.in_ok-text.ensures.report)
+    c.report.ensures.few c.in_ok-text.ensures.report)
