@@ -8,7 +8,7 @@ use Rattle.pad_text.specs.Text.{CutsPair}
 use Rattle.pad_patch.specs.declared.patch.Patch.{Patch}
 use Rattle.pad_patch.specs.Piece.{end_of, text_after}
 use Rattle.pad_patch.specs.Misfit.{EndsAfter, CanApply}
-use Rattle.pad_patch.proofs.Copies.{length-text_after}
+use Rattle.pad_patch.proofs.CallerLemmas.{length-text_after}
 use Rattle.pad_merge.specs.Source.{Source, new_unit, kept_from, sources_of, unit_of}
 use Rattle.pad_merge.specs.Merge.{CutsNewPair, CutsInserted, CanMerge}
 use Rattle.pad_merge.proofs.Sources.{map-sources_after, map-kept_all}

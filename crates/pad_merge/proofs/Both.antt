@@ -10,8 +10,8 @@ use Rattle.pad_patch.specs.declared.operation.Operation.{Operation}
 use Rattle.pad_patch.specs.declared.patch.Patch.{Patch}
 use Rattle.pad_patch.specs.Piece.{end_of, length_after, text_after}
 use Rattle.pad_patch.specs.Misfit.{EndsAfter}
-use Rattle.pad_patch.proofs.Laid.{IsLaid, laid, inside_laid}
-use Rattle.pad_patch.proofs.Copies.{copy_from, length-text_after, IsText-text_after}
+use Rattle.pad_patch.proofs.CallerLemmas.{IsLaid, laid, inside_laid}
+use Rattle.pad_patch.proofs.CallerLemmas.{copy_from, text_after-copy, length-text_after, IsText-text_after}
 use Rattle.pad_merge.specs.Source.{Source, kept_at, new_unit, kept_from, sources_after, sources_of, unit_of, IsAscending}
 use Rattle.pad_merge.specs.CopiedUnit.{new_or_letter}
 use Rattle.pad_merge.specs.Merge.{merged, operations_between, CutsNewPair, CanMerge, IsNormal}
@@ -70,11 +70,12 @@ patch_from size sources before = record { ops = operations_between 0 [] size sou
 -- applying the merge once is applying both in turn
 pub text_after-merged : (first second : Patch) (size : ℕ) (text : List ℕ) → CanMerge first second size → length text ≡ size
     → text_after (merged first second size) text ≡ text_after second (text_after first text)
-unfolding text_after merged
+unfolding merged
 text_after-merged first second size text can is =
     let sources = sources_after second (sources_of first size) in
     let rises = subst (λ n. IsAscending 0 n sources) (sym is) (rising_both first second size can) in
-    ap (λ n. copy_from text 0 (operations_between 0 [] n sources)) (sym is)
+    text_after-copy (merged first second size) text
+    ∙ ap (λ n. copy_from text 0 (operations_between 0 [] n sources)) (sym is)
     ∙ copy_between text 0 [] sources rises
     ∙ both_units first second size text is
 

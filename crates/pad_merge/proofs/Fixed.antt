@@ -6,10 +6,10 @@ use Rattle.pad_patch.specs.declared.operation.Operation.{Operation}
 use Rattle.pad_patch.specs.declared.patch.Patch.{Patch}
 use Rattle.pad_patch.specs.Piece.{end_of, pieces_from}
 use Rattle.pad_patch.specs.Misfit.{EndsAfter}
-use Rattle.pad_patch.proofs.Laid.{IsLaid}
-use Rattle.pad_merge.specs.Source.{Source, kept_at, new_unit, kept_from, sources_of_piece, sources_of, sources_after, IsAscending}
+use Rattle.pad_patch.proofs.CallerLemmas.{IsLaid}
+use Rattle.pad_merge.specs.Source.{Source, kept_at, new_unit, kept_from, sources_of, sources_after, IsAscending}
 use Rattle.pad_merge.specs.Merge.{gap, operations_between, merged, CanMerge, IsNormal}
-use Rattle.pad_merge.proofs.Sources.{length-kept_from}
+use Rattle.pad_merge.proofs.Sources.{sources_of_piece, sources-pieces, length-kept_from}
 use Rattle.pad_merge.proofs.Reading.{IsGap, none, one, gap_cases, replacing, laid_between}
 use Rattle.pad_merge.proofs.Both.{rising_both}
 use Rattle.pad_merge.proofs.Readback.{copy_of, range_kept, read_normal}
@@ -65,7 +65,8 @@ pub sources_of-merged : (first second : Patch) (size : ℕ) → CanMerge first s
 unfolding merged
 sources_of-merged first second size can =
     let sources = sources_after second (sources_of first size) in
-    ap (λ n. flat_map (sources_of_piece (kept_from 0 size)) (pieces_from 0 n (operations_between 0 [] size sources))) (length-kept_from 0 size)
+    sources-pieces (merged first second size) (kept_from 0 size)
+    ∙ ap (λ n. flat_map (sources_of_piece (kept_from 0 size)) (pieces_from 0 n (operations_between 0 [] size sources))) (length-kept_from 0 size)
     ∙ copy_between size 0 [] sources (rising_both first second size can)
 
 pub normal_fixed : (first second : Patch) (size : ℕ) → IsNormal first → ((index : ℕ) → ¬ (EndsAfter first size index)) → IsNormal second → ((index : ℕ) → ¬ (EndsAfter second size index))

@@ -1,4 +1,5 @@
 pub mod Sources
+pub mod Numbers
 pub mod Units
 pub mod Reading
 pub mod Both
@@ -9,3 +10,7 @@ pub mod Named
 pub mod Places
 pub mod Pairs
 pub mod Fixed
+pub mod Labels
+pub mod Removals
+pub mod Whole
+pub mod CallerLemmas

@@ -8,17 +8,15 @@ use Rattle.std.proofs.lemmas.Option.{slice_get-map}
 use Rattle.std.proofs.lemmas.Grind.{flat_map-append}
 use Rattle.pad_patch.specs.declared.operation.Operation.{Operation}
 use Rattle.pad_patch.specs.declared.patch.Patch.{Patch}
-use Rattle.pad_patch.specs.Piece.{end_of, pieces, pieces_from, inserted}
+use Rattle.pad_patch.specs.Piece.{end_of, pieces, pieces_from, insertions, inserted}
 use Rattle.pad_merge.specs.declared.origin.Origin.{Origin}
 use Rattle.pad_merge.specs.declared.origin.Origin.TheVariants.{First, Second}
-use Rattle.pad_merge.specs.Source.{Source, kept_at, new_unit, kept_from, sources_of_piece, sources_of, sources_after}
-use Rattle.pad_merge.specs.Origin.{numbered, origins_of_pieces, origins_after, origins, named_unit}
+use Rattle.pad_merge.specs.Source.{Source, kept_at, new_unit, kept_from, sources_of, sources_after}
+use Rattle.pad_merge.specs.Origin.{numbered, origins_after, origins, named_unit}
+use Rattle.pad_merge.proofs.Numbers.{origins_of_pieces, origins-pieces}
 use Rattle.pad_merge.specs.Merge.{gap, operations_between, merged}
 use Rattle.pad_merge.proofs.Reading.{none, one, gap_cases}
-
--- the units that operations insert, joined
-abbrev pub insertions : List Operation → List ℕ
-insertions operations = flat_map (λ (operation : Operation). operation.insert) operations
+use Rattle.pad_merge.proofs.Sources.{sources_of_piece, sources-pieces}
 
 -- each new unit has an origin, which names it, and no kept unit has one
 abbrev Names : (Origin → Option ℕ) → List Source → List (Option Origin) → Type 0
@@ -113,8 +111,10 @@ names_after : (name : Origin → Option ℕ) (number : ℕ → Origin) (patch : 
     → ((place : ℕ) → name (number place) ≡ slice_get (inserted patch) place) → Names name sources found
     → Names name (sources_after patch sources) (origins_after number patch found)
 names_after name number patch sources found told named =
-    subst (λ n. Names name (sources_after patch sources) (origins_of_pieces number found 0 (pieces patch n))) (names_length name sources found named)
-    (names_copy name number (inserted patch) [] sources found 0 (length sources) patch.ops told refl named)
+    subst (λ xs. Names name xs (origins_after number patch found)) (sym (sources-pieces patch sources))
+    (subst (λ xs. Names name (flat_map (sources_of_piece sources) (pieces patch (length sources))) xs) (sym (origins-pieces number patch found))
+    (subst (λ n. Names name (flat_map (sources_of_piece sources) (pieces patch (length sources))) (origins_of_pieces number found 0 (pieces patch n))) (names_length name sources found named)
+    (names_copy name number (inserted patch) [] sources found 0 (length sources) patch.ops told refl named)))
 
 names_first : (first second : Patch) (size : ℕ) → Names (named_unit first second) (sources_of first size) (origins_after First first (replicate size None))
 names_first first second size =
@@ -169,7 +169,7 @@ unfolding merged
 inserted_merged first second size = insertions_between 0 [] size (sources_after second (sources_of first size))
 
 -- the origins name all units that a merge inserts
-named_all : (first second : Patch) (size : ℕ) → map (named_unit first second) (origins first second size) ≡ map Some (inserted (merged first second size))
+pub named_all : (first second : Patch) (size : ℕ) → map (named_unit first second) (origins first second size) ≡ map Some (inserted (merged first second size))
 unfolding origins
 named_all first second size =
     names_new (named_unit first second) (sources_after second (sources_of first size)) (origins_after Second second (origins_after First first (replicate size None))) (names_both first second size)

@@ -10,10 +10,10 @@ use Rattle.pad_patch.specs.declared.operation.Operation.{Operation}
 use Rattle.pad_patch.specs.declared.patch.Patch.{Patch}
 use Rattle.pad_patch.specs.Piece.{end_of, pieces_from, text_after}
 use Rattle.pad_patch.specs.Misfit.{CutsPairAt, CanApply}
-use Rattle.pad_patch.proofs.Laid.{IsLaid, laid, ordered_laid, inside_laid}
-use Rattle.pad_merge.specs.Source.{Source, kept_at, new_unit, kept_from, sources_of_piece, sources_after, sources_of, unit_of, IsAscending}
+use Rattle.pad_patch.proofs.CallerLemmas.{IsLaid, laid, ordered_laid, inside_laid, range-drop}
+use Rattle.pad_merge.specs.Source.{Source, kept_at, new_unit, kept_from, sources_after, sources_of, unit_of, IsAscending}
 use Rattle.pad_merge.specs.Merge.{gap, operations_between, merged}
-use Rattle.pad_merge.proofs.Sources.{map-sources_after, map-kept_all, length-kept_from, range-drop}
+use Rattle.pad_merge.proofs.Sources.{sources_of_piece, sources-pieces, map-sources_after, map-kept_all, length-kept_from}
 use Rattle.pad_merge.proofs.Reading.{none, one, gap_cases, replacing}
 use Rattle.pad_merge.proofs.Both.{laid-merged, laid_second, rising_both}
 use Rattle.pad_merge.proofs.Readback.{gap-none}
@@ -270,9 +270,9 @@ whole_between first second text can_first can_second =
     let units : map (unit_of text) between ≡ text_after first text = map-sources_after (unit_of text) first start (λ unit. refl) ∙ ap (text_after first) all in
     let first_laid = subst (λ n. IsLaid 0 n first.ops) (sym (length-kept_from 0 size)) (laid first size can_first.ordered can_first.inside) in
     let first_whole = subst (λ us. CutNone us first.ops) (sym all) (cut_none_of text first can_first) in
-    let first_together = together_copy text start 0 first.ops first_laid first_whole (together_kept text 0 size (omega arith)) in
+    let first_together = subst (StayTogether text 0) (sym (sources-pieces first start)) (together_copy text start 0 first.ops first_laid first_whole (together_kept text 0 size (omega arith))) in
     let second_whole = subst (λ us. CutNone us second.ops) (sym units) (cut_none_of (text_after first text) second can_second) in
-    let both_together = together_copy text between 0 second.ops (laid_second first second size can) second_whole first_together in
+    let both_together = subst (StayTogether text 0) (sym (sources-pieces second between)) (together_copy text between 0 second.ops (laid_second first second size can) second_whole first_together) in
     cut_none_between text 0 0 [] (sources_after second between) (rising_both first second size can) (begins refl refl) both_together
 
 -- a patch that can be applied twice in turn can be applied merged

@@ -7,16 +7,17 @@ use Rattle.std.proofs.lemmas.List.{append-nil, length-append, length-drop, map-a
 use Rattle.std.proofs.lemmas.List.Elements.{filter_map-append}
 use Rattle.pad_patch.specs.declared.operation.Operation.{Operation}
 use Rattle.pad_patch.specs.declared.patch.Patch.{Patch}
-use Rattle.pad_patch.specs.Piece.{end_of, pieces_from, inserted}
-use Rattle.pad_patch.proofs.Laid.{IsLaid}
+use Rattle.pad_patch.specs.Piece.{end_of, pieces_from, insertions, inserted}
+use Rattle.pad_patch.proofs.CallerLemmas.{IsLaid, range-append, range-drop}
 use Rattle.pad_merge.specs.declared.origin.Origin.{Origin}
 use Rattle.pad_merge.specs.declared.origin.Origin.TheVariants.{First, Second}
 use Rattle.pad_merge.specs.Source.{Source, kept_at, new_unit, IsAscending}
-use Rattle.pad_merge.specs.Origin.{numbered, origins_of_pieces, origins_after, origins, first_place, second_place}
+use Rattle.pad_merge.specs.Origin.{numbered, origins_after, origins, first_place, second_place}
+use Rattle.pad_merge.proofs.Numbers.{origins_of_pieces, origins-pieces}
 use Rattle.pad_merge.specs.Merge.{CanMerge}
-use Rattle.pad_merge.proofs.Sources.{ascending_bounds, ascending_lower, ascending_append, ascending_split, range-drop}
+use Rattle.pad_merge.proofs.Sources.{ascending_bounds, ascending_lower, ascending_append, ascending_split}
 use Rattle.pad_merge.proofs.Both.{laid_second}
-use Rattle.pad_merge.proofs.Named.{insertions, length-origins_first}
+use Rattle.pad_merge.proofs.Named.{length-origins_first}
 
 -- the origins that stand there
 abbrev told : List (Option Origin) → List Origin
@@ -180,18 +181,6 @@ seconds_numbered : (from count : ℕ) → seconds (numbered Second from count) �
 seconds_numbered from zero = refl
 seconds_numbered from (suc count) = ap (λ numbers. from ∷ numbers) (seconds_numbered (from + 1) count)
 
-range-append : (from first second : ℕ) → range_with_len from first ++ range_with_len (from + first) second ≡ range_with_len from (first + second)
-range-append from zero second =
-    let here : from + 0 ≡ from = omega arith in
-    let all : second ≡ 0 + second = omega arith in
-    ap (λ n. range_with_len n second) here ∙ ap (range_with_len from) all
-range-append from (suc first) second =
-    let there : from + suc first ≡ from + 1 + first = omega arith in
-    let all : suc (first + second) ≡ suc first + second = omega arith in
-    ap (λ n. from ∷ (range_with_len (from + 1) first ++ range_with_len n second)) there
-    ∙ ap (λ numbers. from ∷ numbers) (range-append (from + 1) first second)
-    ∙ ap (range_with_len from) all
-
 seconds_copy : (found : List (Option Origin)) (at place size : ℕ) (operations : List Operation) → NoSecond found
     → seconds (origins_of_pieces Second found at (pieces_from place size operations)) ≡ range_with_len at (length (insertions operations))
 seconds_copy found at place size [] clean =
@@ -216,7 +205,9 @@ unfolding origins
 seconds_all first second size =
     let before = replicate size None in
     let found = origins_after First first before in
-    seconds_copy found 0 0 (length found) second.ops (no_second_copy before 0 0 (length before) first.ops (no_second_none size))
+    ap seconds (origins-pieces Second second found)
+    ∙ seconds_copy found 0 0 (length found) second.ops
+    (subst NoSecond (sym (origins-pieces First first before)) (no_second_copy before 0 0 (length before) first.ops (no_second_none size)))
 
 -- an origin in the first patch as a kept unit, so that what is known of kept units tells how places rise
 abbrev shown : Option Origin → Source
@@ -327,7 +318,9 @@ firsts_rise first second size can =
     let high = 0 + length (insertions first.ops) in
     let laid_out = subst (λ n. IsLaid 0 n second.ops) (length-origins_first first size) (laid_second first second size can) in
     rise_shown 0 high (origins_after Second second found)
-    (second_copy found 0 high 0 0 second.ops laid_out (first_copy before 0 0 (length before) first.ops (none_all size)))
+    (subst (λ xs. IsAscending 0 high (map shown xs)) (sym (origins-pieces Second second found))
+    (second_copy found 0 high 0 0 second.ops laid_out
+    (subst (λ xs. IsAscending 0 high (map shown xs)) (sym (origins-pieces First first before)) (first_copy before 0 0 (length before) first.ops (none_all size)))))
 
 pub firsts_increase : (first second : Patch) (size : ℕ) → CanMerge first second size → IsStrictlyIncreasing (filter_map first_place (origins first second size))
 firsts_increase first second size can index below =

@@ -8,11 +8,11 @@ use Rattle.pad_patch.specs.declared.operation.Operation.{Operation}
 use Rattle.pad_patch.specs.declared.patch.Patch.{Patch}
 use Rattle.pad_patch.specs.Piece.{end_of, pieces_from}
 use Rattle.pad_patch.specs.Misfit.{EndsAfter}
-use Rattle.pad_patch.proofs.Laid.{Inside, StartsFrom, inside_of}
-use Rattle.pad_patch.proofs.Inverses.{same_operation}
-use Rattle.pad_merge.specs.Source.{Source, kept_at, new_unit, kept_from, sources_of_piece, sources_of, sources_after}
+use Rattle.pad_patch.proofs.CallerLemmas.{Inside, StartsFrom, inside_of}
+use Rattle.pad_patch.proofs.CallerLemmas.{same_operation}
+use Rattle.pad_merge.specs.Source.{Source, kept_at, new_unit, kept_from, sources_of, sources_after}
 use Rattle.pad_merge.specs.Merge.{gap, operations_between, merged, IsNormal}
-use Rattle.pad_merge.proofs.Sources.{length-kept_from}
+use Rattle.pad_merge.proofs.Sources.{sources_of_piece, sources-pieces, length-kept_from}
 use Rattle.pad_merge.proofs.Reading.{IsSpaced, none, one, gap_cases, replacing}
 
 pub gap-none : (place : ℕ) → gap place place [] ≡ []
@@ -163,7 +163,7 @@ starts_zero : (operations : List Operation) → StartsFrom 0 operations
 starts_zero [] = tt
 starts_zero (operation ∷ operations) = omega arith
 
-spaced_normal : (patch : Patch) → IsNormal patch → IsSpaced 0 patch.ops
+pub spaced_normal : (patch : Patch) → IsNormal patch → IsSpaced 0 patch.ops
 spaced_normal patch normal =
     spaced_from 0 patch.ops (starts_zero patch.ops)
     (λ index earlier later is_earlier is_later. normal.untouched index earlier later is_earlier (rw add-one is_later))
@@ -172,13 +172,15 @@ spaced_normal patch normal =
 -- a patch in normal form is read back off its sources
 pub read_normal : (patch : Patch) (size : ℕ) → IsNormal patch → ((index : ℕ) → ¬ (EndsAfter patch size index)) → operations_between 0 [] size (sources_of patch size) ≡ patch.ops
 read_normal patch size normal inside =
-    ap (λ n. operations_between 0 [] size (flat_map (sources_of_piece (kept_from 0 size)) (pieces_from 0 n patch.ops))) (length-kept_from 0 size)
+    ap (operations_between 0 [] size) (sources-pieces patch (kept_from 0 size))
+    ∙ ap (λ n. operations_between 0 [] size (flat_map (sources_of_piece (kept_from 0 size)) (pieces_from 0 n patch.ops))) (length-kept_from 0 size)
     ∙ read_all size patch.ops (spaced_normal patch normal) (inside_of patch size inside)
 
 -- the sources after no operation are those before
 sources_after-none : (patch : Patch) (sources : List Source) → patch.ops ≡ [] → sources_after patch sources ≡ sources
 sources_after-none patch sources none_there =
-    ap (λ os. flat_map (sources_of_piece sources) (pieces_from 0 (length sources) os)) none_there
+    sources-pieces patch sources
+    ∙ ap (λ os. flat_map (sources_of_piece sources) (pieces_from 0 (length sources) os)) none_there
     ∙ append-nil (take (length sources - 0) sources)
     ∙ take_all (length sources - 0) sources (omega arith)
 

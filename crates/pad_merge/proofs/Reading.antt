@@ -11,8 +11,8 @@ use Rattle.pad_patch.specs.declared.operation.Operation.{Operation}
 use Rattle.pad_patch.specs.declared.patch.Patch.{Patch}
 use Rattle.pad_patch.specs.Piece.{end_of}
 use Rattle.pad_patch.specs.UnitStore.{between}
-use Rattle.pad_patch.proofs.Laid.{IsLaid, IsLaid-before}
-use Rattle.pad_patch.proofs.Copies.{copy_from, copy_from-split}
+use Rattle.pad_patch.proofs.CallerLemmas.{IsLaid, IsLaid-before}
+use Rattle.pad_patch.proofs.CallerLemmas.{copy_from, copy_from-split}
 use Rattle.pad_merge.specs.Source.{Source, kept_at, new_unit, unit_of, IsAscending}
 use Rattle.pad_merge.specs.CopiedUnit.{new_or_letter}
 use Rattle.pad_merge.specs.Merge.{gap, operations_between, IsNormal}

@@ -2,22 +2,12 @@
 use Rattle.std.proofs.Common.{◌≡◌, ℕ, zero, suc, ◌+◌, ◌-◌, ◌<◌, ◌≤◌, List, [], ◌∷◌, ◌++◌, length, map, take, drop, refl, sym, ◌∙◌, ap, subst, arith, append_assoc, drop-cons, add-one, slice_index_or}
 use Rattle.std.specs.Prelude.{slice_index}
 use Rattle.std.specs.List.{flat_map}
-use Rattle.std.proofs.lemmas.List.{append-nil, take_all, drop-drop, take-append-drop, length-drop, map-append, length-map}
+use Rattle.std.proofs.lemmas.List.{append-nil, take_all, length-drop}
 use Rattle.pad_patch.specs.declared.operation.Operation.{Operation}
 use Rattle.pad_patch.specs.declared.patch.Patch.{Patch}
-use Rattle.pad_patch.specs.Piece.{Piece, keep, new_units, end_of, pieces, pieces_from, units_of_piece, text_after}
-use Rattle.pad_patch.proofs.Laid.{IsLaid}
-use Rattle.pad_merge.specs.Source.{Source, kept_at, new_unit, kept_from, sources_of_piece, sources_after, unit_of, IsAscending}
-
-pub map-take : {A B : Type 0} (f : A → B) (n : ℕ) (xs : List A) → map f (take n xs) ≡ take n (map f xs)
-map-take f zero xs = refl
-map-take f (suc n) [] = refl
-map-take f (suc n) (x ∷ xs) = ap (λ ys. f x ∷ ys) (map-take f n xs)
-
-pub map-drop : {A B : Type 0} (f : A → B) (n : ℕ) (xs : List A) → map f (drop n xs) ≡ drop n (map f xs)
-map-drop f zero xs = refl
-map-drop f (suc n) [] = refl
-map-drop f (suc n) (x ∷ xs) = map-drop f n xs
+use Rattle.pad_patch.specs.Piece.{Piece, end_of, pieces, pieces_from, inserted, patched, text_after}
+use Rattle.pad_patch.proofs.CallerLemmas.{IsLaid, map-patched, piece_read, patched-read, range-drop}
+use Rattle.pad_merge.specs.Source.{Source, kept_at, new_unit, kept_from, sources_after, unit_of, IsAscending}
 
 -- a reading of sources as units, which reads a new unit as it is
 abbrev pub ReadsNew : (Source → ℕ) → Type 0
@@ -27,26 +17,20 @@ map-new : (read : Source → ℕ) (units : List ℕ) → ReadsNew read → map r
 map-new read [] new = refl
 map-new read (unit ∷ units) new = ap (λ u. u ∷ map read (map new_unit units)) (new unit) ∙ ap (λ us. unit ∷ us) (map-new read units new)
 
--- reading a copy of sources is copying what they are read as
-map-pieces : (read : Source → ℕ) (sources : List Source) (parts : List Piece) → ReadsNew read
-    → map read (flat_map (sources_of_piece sources) parts) ≡ flat_map (units_of_piece (map read sources)) parts
-map-pieces read sources [] new = refl
-map-pieces read sources (keep from count ∷ parts) new =
-    map-append read (take count (drop from sources)) (flat_map (sources_of_piece sources) parts)
-    ∙ ap (λ xs. xs ++ map read (flat_map (sources_of_piece sources) parts)) (map-take read count (drop from sources) ∙ ap (take count) (map-drop read from sources))
-    ∙ ap (λ xs. take count (drop from (map read sources)) ++ xs) (map-pieces read sources parts new)
-map-pieces read sources (new_units units ∷ parts) new =
-    map-append read (map new_unit units) (flat_map (sources_of_piece sources) parts)
-    ∙ ap (λ xs. xs ++ map read (flat_map (sources_of_piece sources) parts)) (map-new read units new)
-    ∙ ap (λ xs. units ++ xs) (map-pieces read sources parts new)
-
 -- reading the sources after a patch is applying it to what they are read as
 pub map-sources_after : (read : Source → ℕ) (patch : Patch) (sources : List Source) → ReadsNew read
     → map read (sources_after patch sources) ≡ text_after patch (map read sources)
 unfolding text_after
 map-sources_after read patch sources new =
-    map-pieces read sources (pieces patch (length sources)) new
-    ∙ ap (λ n. flat_map (units_of_piece (map read sources)) (pieces patch n)) (sym (length-map sources read))
+    map-patched read patch (map new_unit (inserted patch)) sources ∙ ap (λ us. patched patch us (map read sources)) (map-new read (inserted patch) new)
+
+-- the sources of a piece of the copy of units that have these sources
+abbrev pub sources_of_piece : List Source → Piece → List Source
+sources_of_piece sources = piece_read new_unit sources
+
+-- the sources after a patch, piece by piece
+pub sources-pieces : (patch : Patch) (sources : List Source) → sources_after patch sources ≡ flat_map (sources_of_piece sources) (pieces patch (length sources))
+sources-pieces patch sources = patched-read new_unit sources 0 (length sources) patch.ops
 
 pub length-kept_from : (place count : ℕ) → length (kept_from place count) ≡ count
 length-kept_from place zero = refl
@@ -104,13 +88,6 @@ ascending_kept place (suc count) =
     let same : suc place + count ≡ place + suc count = omega arith in
     (omega arith, subst (λ n. IsAscending (suc place) n (kept_from (suc place) count)) same (ascending_kept (suc place) count))
 
--- what stands behind a place is a range and what stands behind it
-pub range-drop : {A : Type 0} (low high : ℕ) (xs : List A) → low ≤ high → take (high - low) (drop low xs) ++ drop high xs ≡ drop low xs
-range-drop low high xs order =
-    let there : low + (high - low) ≡ high = omega arith in
-    ap (λ ys. take (high - low) (drop low xs) ++ ys) (ap (λ n. drop n xs) (sym there) ∙ sym (drop-drop (high - low) low xs))
-    ∙ take-append-drop (high - low) (drop low xs)
-
 -- a copy of rising sources rises
 ascending_from : (sources : List Source) (low high place : ℕ) (operations : List Operation) → IsLaid place (length sources) operations → IsAscending low high (drop place sources)
     → IsAscending low high (flat_map (sources_of_piece sources) (pieces_from place (length sources) operations))
@@ -133,7 +110,8 @@ ascending_from sources low high place (operation ∷ operations) (starts, inside
     (ascending_append head.middle head.middle high (map new_unit operation.insert) (flat_map (sources_of_piece sources) (pieces_from end (length sources) operations)) (ascending_new head.middle operation.insert) later)
 
 pub ascending_after : (patch : Patch) (sources : List Source) (low high : ℕ) → IsLaid 0 (length sources) patch.ops → IsAscending low high sources → IsAscending low high (sources_after patch sources)
-ascending_after patch sources low high laid_out rises = ascending_from sources low high 0 patch.ops laid_out rises
+ascending_after patch sources low high laid_out rises =
+    subst (IsAscending low high) (sym (sources-pieces patch sources)) (ascending_from sources low high 0 patch.ops laid_out rises)
 
 -- the elements from an index on are the one there and the later ones
 pub drop-next : {A : Type 0} (items : List A) (index : ℕ) (item : A) → index < length items → item ≡ slice_index_or items index item

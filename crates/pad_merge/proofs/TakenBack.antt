@@ -9,10 +9,10 @@ use Rattle.pad_patch.specs.Piece.{end_of, pieces_from}
 use Rattle.pad_patch.specs.UnitStore.{between}
 use Rattle.pad_patch.specs.Misfit.{IsOperation, Overlaps, EndsAfter}
 use Rattle.pad_patch.specs.Inverse.{inverse, inverse_operations}
-use Rattle.pad_patch.proofs.Laid.{IsLaid, laid}
-use Rattle.pad_merge.specs.Source.{Source, kept_at, new_unit, kept_from, sources_of_piece, sources_of}
+use Rattle.pad_patch.proofs.CallerLemmas.{IsLaid, laid}
+use Rattle.pad_merge.specs.Source.{Source, kept_at, new_unit, kept_from, sources_of}
 use Rattle.pad_merge.specs.Merge.{operations_between, merged}
-use Rattle.pad_merge.proofs.Sources.{length-kept_from}
+use Rattle.pad_merge.proofs.Sources.{sources_of_piece, sources-pieces, length-kept_from}
 use Rattle.pad_merge.proofs.Readback.{copy_of, range_kept, gap-none, read_row}
 
 -- kept units that continue each other
@@ -103,8 +103,8 @@ merged-inverse patch text ordered inside keeps =
     let size = length text in
     let sources = sources_of patch size in
     let whole : sources ≡ copy_of size 0 patch.ops =
-    ap (λ n. flat_map (sources_of_piece (kept_from 0 size)) (pieces_from 0 n patch.ops)) (length-kept_from 0 size) in
-    ap (operations_between 0 [] size) (kept_back size text sources [] 0 0 0 patch.ops refl (laid patch size ordered inside) keeps whole refl ∙ ap (kept_from 0) (minus_zero size))
+    sources-pieces patch (kept_from 0 size) ∙ ap (λ n. flat_map (sources_of_piece (kept_from 0 size)) (pieces_from 0 n patch.ops)) (length-kept_from 0 size) in
+    ap (operations_between 0 [] size) (sources-pieces (inverse patch text) sources ∙ kept_back size text sources [] 0 0 0 patch.ops refl (laid patch size ordered inside) keeps whole refl ∙ ap (kept_from 0) (minus_zero size))
     ∙ no_gaps size
   where
     minus_zero : (n : ℕ) → n - 0 ≡ n

@@ -6,8 +6,9 @@ use Rattle.pad_patch.specs.declared.operation.Operation.{Operation}
 use Rattle.pad_patch.specs.Piece.{end_of, pieces_from}
 use Rattle.pad_merge.specs.declared.origin.Origin.{Origin}
 use Rattle.pad_merge.specs.declared.copied_unit.CopiedUnit.{CopiedUnit}
-use Rattle.pad_merge.specs.Origin.{numbered, origins_of_pieces}
-use Rattle.pad_merge.proofs.Sources.{map-take, map-drop}
+use Rattle.pad_merge.specs.Origin.{numbered}
+use Rattle.pad_merge.proofs.Numbers.{origins_of_pieces}
+use Rattle.pad_patch.proofs.CallerLemmas.{map-take, map-drop}
 
 -- one more unit, of which a list of all still to come begins with what it shows
 pub grown_by : {A : Type 0} (show : CopiedUnit → A) (before after : List CopiedUnit) (unit : CopiedUnit) (rest all : List A)

@@ -1,16 +1,18 @@
 -- What holds of the merge of any two patches.
-use Rattle.std.specs.Prelude.{◌≡◌, ℕ, ◌<◌, Some, List, [], length, slice_get}
+use Rattle.std.specs.Prelude.{◌≡◌, ℕ, ◌<◌, ◌⊎◌, Some, List, [], All, length, map, slice_get}
 use Rattle.std.specs.List.{filter_map, range_with_len}
 use Rattle.std.specs.List.Sorted.{IsStrictlyIncreasing}
+use Rattle.pad_text.specs.Text.{IsText}
 use Rattle.pad_patch.specs.declared.operation.Operation.{Operation}
 use Rattle.pad_patch.specs.declared.patch.Patch.{Patch}
-use Rattle.pad_patch.specs.Piece.{text_after, inserted}
+use Rattle.pad_patch.specs.Piece.{text_after, inserted, patched}
+use Rattle.pad_patch.specs.Removed.{Removes, IsKeptFrom}
 use Rattle.pad_patch.specs.Misfit.{IsOperation, Overlaps, EndsAfter, CanApply}
 use Rattle.pad_patch.specs.Inverse.{inverse}
 use Rattle.pad_merge.specs.declared.origin.Origin.{Origin}
-use Rattle.pad_merge.specs.declared.origin.Origin.TheVariants.{Second}
+use Rattle.pad_merge.specs.declared.origin.Origin.TheVariants.{First, Second}
 use Rattle.pad_merge.specs.Source.{sources_of, sources_after}
-use Rattle.pad_merge.specs.Origin.{origins, named_unit, first_place, second_place}
+use Rattle.pad_merge.specs.Origin.{origins, named_unit, named_in, first_place, second_place}
 use Rattle.pad_merge.specs.Merge.{merged, CanMerge, IsNormal}
 
 -- patches that can be applied to a text one after the other can be merged
@@ -85,3 +87,27 @@ SecondStandsWhole =
 abbrev pub EachOfSecondStands : Type 0
 EachOfSecondStands =
     (first second : Patch) (size place : ℕ) → place < length (inserted second) → (index : ℕ) × (slice_get (origins first second size) index ≡ Some (Second place))
+
+-- a merge of patches that insert texts inserts texts
+abbrev pub MergedInsertsTexts : Type 0
+MergedInsertsTexts =
+    (first second : Patch) (size : ℕ) → CanMerge first second size → All (λ (operation : Operation). IsText operation.insert) first.ops
+    → All (λ (operation : Operation). IsText operation.insert) second.ops → All (λ (operation : Operation). IsText operation.insert) (merged first second size).ops
+
+-- copying a list by a merge is copying it by both patches in turn, where each inserted unit has the element that it has where it comes from
+abbrev pub MergedCopies : Type 0 → Type 0
+MergedCopies A =
+    (past : A) (first second : Patch) (of_first of_second old : List A) → CanMerge first second (length old) → length of_first ≡ length (inserted first) → length of_second ≡ length (inserted second)
+    → patched (merged first second (length old)) (map (named_in past of_first of_second) (origins first second (length old))) old ≡ patched second of_second (patched first of_first old)
+
+-- what a merge removes is what the first patch removes, and what the second one removes of the rest
+abbrev pub MergedRemoves : Type 0
+MergedRemoves =
+    (first second : Patch) (size place : ℕ) → CanMerge first second size
+    → Removes (merged first second size) place → Removes first place ⊎ ((at : ℕ) × IsKeptFrom first size place at × Removes second at)
+
+-- a unit that the first patch inserts is inserted by the merge, or the second one removes it
+abbrev pub FirstStandsUnlessRemoved : Type 0 → Type 0
+FirstStandsUnlessRemoved A =
+    (first second : Patch) (of_first old : List A) (place : ℕ) (element : A) → CanMerge first second (length old) → length of_first ≡ length (inserted first) → slice_get of_first place ≡ Some element
+    → ((index : ℕ) × (slice_get (origins first second (length old)) index ≡ Some (First place))) ⊎ ((at : ℕ) × Removes second at × (slice_get (patched first of_first old) at ≡ Some element))

@@ -1,8 +1,8 @@
 -- Which insertion each inserted unit of a merge comes from.
-use Rattle.std.specs.Prelude.{ℕ, ◌+◌, Option, Some, None, List, [], ◌∷◌, ◌++◌, length, map, take, drop, replicate, slice_get}
+use Rattle.std.specs.Prelude.{ℕ, Option, Some, None, List, length, map, replicate, slice_get, slice_index_or}
 use Rattle.std.specs.List.{filter_map, range_with_len}
 use Rattle.pad_patch.specs.declared.patch.Patch.{Patch}
-use Rattle.pad_patch.specs.Piece.{Piece, keep, new_units, pieces, inserted}
+use Rattle.pad_patch.specs.Piece.{inserted, patched}
 use Rattle.pad_merge.specs.declared.origin.Origin.{Origin}
 use Rattle.pad_merge.specs.declared.origin.Origin.TheVariants.{First, Second}
 
@@ -10,17 +10,10 @@ use Rattle.pad_merge.specs.declared.origin.Origin.TheVariants.{First, Second}
 abbrev pub numbered : (ℕ → Origin) → ℕ → ℕ → List (Option Origin)
 numbered origin from count = map (λ place. Some (origin place)) (range_with_len from count)
 
--- the origins of the units of a copy by pieces, where so many new units stand before them:
--- a kept unit has the one that it had, and new units are numbered from left to right
-abbrev pub origins_of_pieces : (ℕ → Origin) → List (Option Origin) → ℕ → List Piece → List (Option Origin)
-origins_of_pieces origin before place [] = []
-origins_of_pieces origin before place (keep from count ∷ parts) = take count (drop from before) ++ origins_of_pieces origin before place parts
-origins_of_pieces origin before place (new_units units ∷ parts) =
-    numbered origin place (length units) ++ origins_of_pieces origin before (place + length units) parts
-
--- the origins of the units after a patch of units that have these origins
+-- the origins of the units after a patch of units that have these origins: a kept unit has the one that it had, and
+-- new units are numbered from left to right
 abbrev pub origins_after : (ℕ → Origin) → Patch → List (Option Origin) → List (Option Origin)
-origins_after origin patch before = origins_of_pieces origin before 0 (pieces patch (length before))
+origins_after origin patch before = patched patch (numbered origin 0 (length (inserted patch))) before
 
 -- the origins of the units that a merge of two patches of a text of `size` units inserts. A unit of the text has none
 unfoldable pub origins : Patch → Patch → ℕ → List Origin
@@ -40,3 +33,8 @@ second_place (Second place) = Some place
 abbrev pub named_unit : Patch → Patch → Origin → Option ℕ
 named_unit first second (First place) = slice_get (inserted first) place
 named_unit first second (Second place) = slice_get (inserted second) place
+
+-- the element of a unit that a merge inserts: the one that it has where it comes from, and `past` past the end
+abbrev pub named_in : {A : Type 0} → A → List A → List A → Origin → A
+named_in past first second (First place) = slice_index_or first place past
+named_in past first second (Second place) = slice_index_or second place past

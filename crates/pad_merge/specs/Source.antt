@@ -1,8 +1,7 @@
 -- Where the units of a copy come from: from a place of the text, or from an insertion.
-use Rattle.std.specs.Prelude.{ℕ, zero, suc, ◌≤◌, List, [], ◌∷◌, length, map, take, drop, slice_index}
-use Rattle.std.specs.List.{flat_map}
+use Rattle.std.specs.Prelude.{ℕ, zero, suc, ◌≤◌, List, [], ◌∷◌, map, slice_index}
 use Rattle.pad_patch.specs.declared.patch.Patch.{Patch}
-use Rattle.pad_patch.specs.Piece.{Piece, keep, new_units, pieces}
+use Rattle.pad_patch.specs.Piece.{inserted, patched}
 
 -- where one unit of a copy comes from
 pub data Source : Type 0 where
@@ -16,14 +15,9 @@ abbrev pub kept_from : ℕ → ℕ → List Source
 kept_from place zero = []
 kept_from place (suc count) = kept_at place ∷ kept_from (suc place) count
 
--- the sources of a piece of the copy of units that have these sources
-abbrev pub sources_of_piece : List Source → Piece → List Source
-sources_of_piece sources (keep from count) = take count (drop from sources)
-sources_of_piece sources (new_units units) = map new_unit units
-
 -- the sources of the units after a patch of units that have these sources
 abbrev pub sources_after : Patch → List Source → List Source
-sources_after patch sources = flat_map (sources_of_piece sources) (pieces patch (length sources))
+sources_after patch sources = patched patch (map new_unit (inserted patch)) sources
 
 -- the sources of the units after a patch of a text of `size` units
 abbrev pub sources_of : Patch → ℕ → List Source

@@ -1,6 +1,6 @@
 //! Laws over the definitions, each proved once.
 ghost use Rattle.pad_merge.specs.Laws.{AppliedPatchesMerge, MergedApplies, MergedHasSources, SourcesFixNormal, EmptyFirst, EmptySecond, InsertionsTakenBack, NormalIsOrdered};
-ghost use Rattle.pad_merge.specs.Laws.{OneOriginEach, OriginsNameUnits, NoOriginTwice, FirstPlacesRise, SecondStandsWhole, EachOfSecondStands};
+ghost use Rattle.pad_merge.specs.Laws.{OneOriginEach, OriginsNameUnits, NoOriginTwice, FirstPlacesRise, SecondStandsWhole, EachOfSecondStands, MergedInsertsTexts, MergedCopies, MergedRemoves, FirstStandsUnlessRemoved};
 
 /// Patches that can be applied to a text one after the other can be merged.
 pub fn applied_patches_merge()
@@ -70,4 +70,24 @@ pub fn second_stands_whole()
 /// Each unit that the second patch inserts has an origin.
 pub fn each_of_second_stands()
     ensures { EachOfSecondStands }
+{}
+
+/// A merge of patches that insert texts inserts texts.
+pub fn merged_inserts_texts()
+    ensures { MergedInsertsTexts }
+{}
+
+/// Copying a list by a merge is copying it by both patches in turn.
+pub fn merged_copies<A>()
+    ensures { MergedCopies A }
+{}
+
+/// A merge removes what the first patch removes, and what the second one removes of the rest.
+pub fn merged_removes()
+    ensures { MergedRemoves }
+{}
+
+/// A unit that the first patch inserts is inserted by the merge, or the second patch removes it.
+pub fn first_stands_unless_removed<A>()
+    ensures { FirstStandsUnlessRemoved A }
 {}

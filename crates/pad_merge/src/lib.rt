@@ -1,4 +1,13 @@
-//! Merging two patches into one.
+//! Merging two patches, one on the text after the other, into one.
+//!
+//! The merge of two patches does on a text what the first patch and then the second one do, in normal form: no two
+//! operations touch, and none is empty. `merge_from` also answers where each inserted unit comes from.
+//!
+//! ```text
+//! // `first` can be applied to a text of `len` units, and `second` to the text after it
+//! applied_patches_merge();
+//! let both = merge(alloc, &first, &second, len)?;
+//! ```
 #![tactic(auto)]
 
 mod copied_unit;

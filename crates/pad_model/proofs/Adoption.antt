@@ -9,7 +9,8 @@ use Rattle.pad_text.specs.Name.{NameLess}
 use Rattle.pad_patch.specs.declared.operation.Operation.{Operation}
 use Rattle.pad_patch.specs.declared.patch.Patch.{Patch}
 use Rattle.pad_patch.specs.declared.misfit.Misfit.TheVariants.{TooLong, BeforeHash}
-use Rattle.pad_patch.specs.Piece.{pieces_from, units_of_piece, text_after}
+use Rattle.pad_patch.specs.Piece.{pieces_from, text_after}
+use Rattle.pad_patch.proofs.CallerLemmas.{units_of_piece, text_after-copy}
 use Rattle.pad_patch.specs.Misfit.{longest_text, Fits}
 use Rattle.pad_message.specs.declared.message.Message.{Message}
 use Rattle.pad_message.specs.Kind.{is_checkpoint}
@@ -32,8 +33,7 @@ copied t =
     ap (λ k. t ++ (take k (drop (0 + length t) t) ++ [])) none ∙ append-nil t
 
 whole_stays : (p : Patch) (t : List ℕ) → p.ops ≡ record { offset = 0; remove = length t; insert = t } ∷ [] → text_after p t ≡ t
-unfolding text_after
-whole_stays p t e = ap (λ ops. flat_map (units_of_piece t) (pieces_from 0 (length t) ops)) e ∙ copied t
+whole_stays p t e = text_after-copy p t ∙ ap (λ ops. flat_map (units_of_piece t) (pieces_from 0 (length t) ops)) e ∙ copied t
 
 head_same : (x y : Operation) → x ∷ [] ≡ y ∷ [] → x ≡ y
 head_same x y e = cc

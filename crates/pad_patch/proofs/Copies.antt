@@ -11,16 +11,22 @@ use Rattle.pad_patch.specs.declared.operation.Operation.{Operation}
 use Rattle.pad_patch.specs.declared.patch.Patch.{Patch}
 use Rattle.std.proofs.lemmas.List.Sums.{sum_by-cons}
 use Rattle.std.proofs.lemmas.Bool.{cases_lt}
-use Rattle.pad_patch.specs.Piece.{keep, new_units, end_of, pieces_from, units_of_piece, size_of_piece, length_after, text_after}
+use Rattle.pad_patch.specs.Piece.{keep, new_units, end_of, pieces_from, size_of_piece, length_after, text_after}
 use Rattle.pad_patch.specs.Misfit.{EndsAfter, CutsPairAt, CanApply, Fits}
 use Rattle.pad_patch.specs.declared.misfit.Misfit.TheVariants.{Order, Range, Pair}
 use Rattle.pad_patch.specs.UnitStore.{IsRange, between, replaced}
 use Rattle.pad_patch.proofs.Cuts.{end-cuts_none}
+use Rattle.pad_patch.proofs.Patched.{units_of_piece, patched-units}
 use Rattle.pad_patch.proofs.Laid.{IsLaid, Inside, inside_of, laid, IsLaid-at, IsLaid-before, ordered_laid, inside_laid}
 
 -- the rest of the copy, from a place of the text on
 abbrev pub copy_from : List ℕ → ℕ → List Operation → List ℕ
 copy_from text place operations = flat_map (units_of_piece text) (pieces_from place (length text) operations)
+
+-- the text after a patch is the whole copy
+pub text_after-copy : (patch : Patch) (text : List ℕ) → text_after patch text ≡ copy_from text 0 patch.ops
+unfolding text_after
+text_after-copy patch text = patched-units text 0 (length text) patch.ops
 
 -- all units of a text are a range of it
 pub IsRange-whole : (text : List ℕ) (size : ℕ) → size ≡ length text → IsRange text 0 size
@@ -166,8 +172,7 @@ length-copy_from text place (operation ∷ operations) inside =
 -- the length of the text after a patch whose operations end within the text
 pub length-text_after : (patch : Patch) (text : List ℕ) → ((index : ℕ) → ¬ (EndsAfter patch (length text) index))
     → length (text_after patch text) ≡ length_after patch (length text)
-unfolding text_after
-length-text_after patch text inside = length-copy_from text 0 patch.ops (inside_of patch (length text) inside)
+length-text_after patch text inside = ap length (text_after-copy patch text) ∙ length-copy_from text 0 patch.ops (inside_of patch (length text) inside)
 
 -- the length that is counted from the length of the text
 pub length_after-size : (patch : Patch) (text : List ℕ) (size : ℕ) → size ≡ length text → CanApply patch text → length_after patch size ≡ length (text_after patch text)
@@ -175,8 +180,7 @@ length_after-size patch text size same can = ap (length_after patch) same ∙ sy
 
 -- a patch without operations leaves the text
 pub text_after-none : (patch : Patch) (text : List ℕ) → patch.ops ≡ [] → text_after patch text ≡ text
-unfolding text_after
-text_after-none patch text none = ap (copy_from text 0) none ∙ copy_from-none text
+text_after-none patch text none = text_after-copy patch text ∙ ap (copy_from text 0) none ∙ copy_from-none text
 
 -- no operation cuts a pair
 abbrev pub Whole : List ℕ → List Operation → Type 0
@@ -215,11 +219,11 @@ IsText-copy_from text place (operation ∷ operations) is_text starts whole inse
 -- the text after a patch that cuts no pair is a text
 pub IsText-text_after : (patch : Patch) (text : List ℕ) → IsText text → All (λ (operation : Operation). IsText operation.insert) patch.ops → ((index : ℕ) → ¬ (CutsPairAt patch text index))
     → IsText (text_after patch text)
-unfolding text_after
 IsText-text_after patch text is_text inserts whole =
-    IsText-copy_from text 0 patch.ops is_text (λ cut. let within = cut.after_start in absurd (omega arith))
+    subst IsText (sym (text_after-copy patch text))
+    (IsText-copy_from text 0 patch.ops is_text (λ cut. let within = cut.after_start in absurd (omega arith))
     (λ index operation is. (λ cut. whole index (operation, is, inl cut), λ cut. whole index (operation, is, inr cut)))
-    (InsertsTexts-all patch.ops inserts)
+    (InsertsTexts-all patch.ops inserts))
 
 -- a patch that fits can be applied
 pub CanApply-Fits : (patch : Patch) (text : List ℕ) → Fits patch text → CanApply patch text

@@ -9,16 +9,13 @@ use Rattle.pad_text.specs.declared.name.Name.{Name}
 use Rattle.pad_text.proofs.Texts.{IsText-append, seam-cuts_none}
 use Rattle.pad_patch.specs.declared.operation.Operation.{Operation}
 use Rattle.pad_patch.specs.declared.patch.Patch.{Patch}
-use Rattle.pad_patch.specs.Piece.{end_of, text_after}
+use Rattle.pad_patch.specs.Piece.{end_of, patched, inserted, text_after}
 use Rattle.pad_patch.specs.UnitStore.{between}
 use Rattle.pad_patch.specs.Inverse.{inverse, inverse_operation, inverse_operations}
 use Rattle.pad_patch.specs.Misfit.{Overlaps, EndsAfter, CanApply}
 use Rattle.pad_patch.proofs.Laid.{IsLaid, laid}
-use Rattle.pad_patch.proofs.Copies.{copy_from, between-drop, Whole, InsertsTexts, InsertsTexts-all, IsText-copy_from, CanApply-laid}
-
--- where a place of the text stands in the copy
-abbrev pub moved : ℕ → ℕ → ℕ → ℕ
-moved inserted removed place = place + inserted - removed
+use Rattle.pad_patch.proofs.Undone.{moved, inverse_end, patched-inverse, inserted-inverse_operations}
+use Rattle.pad_patch.proofs.Copies.{copy_from, text_after-copy, between-drop, Whole, InsertsTexts, InsertsTexts-all, IsText-copy_from, CanApply-laid}
 
 -- what the copy is made of up to an operation, and from there on
 pub record IsCut (text copy front : List ℕ) (inserted removed place : ℕ) (operations : List Operation) : Type 0 where
@@ -46,55 +43,11 @@ next text copy front inserted removed place operation operations starts inside c
       below = omega (arith, cut.below);
     }
 
--- the copy behind its front
-behind : (text copy front : List ℕ) (inserted removed place : ℕ) (operations : List Operation) → IsCut text copy front inserted removed place operations
-    → drop (moved inserted removed place) copy ≡ copy_from text place operations
-behind text copy front inserted removed place operations cut =
-    ap (drop (moved inserted removed place)) cut.whole ∙ drop_at front (copy_from text place operations) (moved inserted removed place) cut.at
-
 -- the length of the copy is that of its front and of the rest
 sizes : (text copy front : List ℕ) (inserted removed place : ℕ) (operations : List Operation) → IsCut text copy front inserted removed place operations
     → length copy ≡ moved inserted removed place + length (copy_from text place operations)
 sizes text copy front inserted removed place operations cut =
     ap length cut.whole ∙ length-append front (copy_from text place operations) ∙ ap (λ n. n + length (copy_from text place operations)) cut.at
-
--- where an operation of the inverse ends
-inverse_end : (inserted removed place : ℕ) (operation : Operation) → place ≤ operation.offset → removed ≤ place
-    → operation.offset + inserted - removed + length operation.insert ≡ moved (inserted + length operation.insert) (removed + operation.remove) (end_of operation)
-inverse_end inserted removed place operation starts below = omega arith
-
--- the inverse gives the text back from a place on
-undone_from : (text copy front : List ℕ) (inserted removed place : ℕ) (operations : List Operation)
-    → IsLaid place (length text) operations → IsCut text copy front inserted removed place operations
-    → copy_from copy (moved inserted removed place) (inverse_operations inserted removed text operations) ≡ drop place text
-undone_from text copy front inserted removed place [] laid_out cut =
-    let here = moved inserted removed place in
-    append-nil (between here (length copy) copy)
-    ∙ ap (take (length copy - here)) (behind text copy front inserted removed place [] cut)
-    ∙ take_all (length copy - here) (copy_from text place []) (omega (arith, sizes text copy front inserted removed place [] cut))
-    ∙ append-nil (between place (length text) text)
-    ∙ take_all (length text - place) (drop place text) (omega (arith, length-drop place text))
-undone_from text copy front inserted removed place (operation ∷ operations) (starts, inside, rest) cut =
-    let here = moved inserted removed place in
-    let offset = operation.offset + inserted - removed in
-    let kept = between place operation.offset text in
-    let later = operation.insert ++ copy_from text (end_of operation) operations in
-    let inverses = inverse_operations (inserted + length operation.insert) (removed + operation.remove) text operations in
-    let out = between operation.offset (end_of operation) text in
-    let size : offset - here ≡ operation.offset - place = omega (arith, cut.below) in
-    let head : take (offset - here) (drop here copy) ≡ kept =
-    ap (λ n. take n (drop here copy)) size
-    ∙ ap (take (operation.offset - place)) (behind text copy front inserted removed place (operation ∷ operations) cut)
-    ∙ take_at kept later (operation.offset - place) (kept_size text place operation inside) in
-    let tail : copy_from copy (offset + length operation.insert) inverses ≡ drop (end_of operation) text =
-    ap (λ n. copy_from copy n inverses) (inverse_end inserted removed place operation starts cut.below)
-    ∙ undone_from text copy (front_of text front place operation) (inserted + length operation.insert) (removed + operation.remove) (end_of operation) operations rest
-    (next text copy front inserted removed place operation operations starts inside cut) in
-    let order : operation.offset ≤ end_of operation = omega arith in
-    ap (λ xs. xs ++ (out ++ copy_from copy (offset + length operation.insert) inverses)) head
-    ∙ ap (λ xs. kept ++ (out ++ xs)) tail
-    ∙ ap (λ xs. kept ++ xs) (between-drop operation.offset (end_of operation) text order)
-    ∙ between-drop place operation.offset text starts
 
 -- the inverse stands in order in the copy
 laid_inverse : (text copy front : List ℕ) (inserted removed place : ℕ) (operations : List Operation)
@@ -147,15 +100,15 @@ whole_inverse text copy front inserted removed place (operation ∷ operations) 
 
 -- the whole copy
 first : (patch : Patch) (text : List ℕ) → IsCut text (text_after patch text) [] 0 0 0 patch.ops
-unfolding text_after
-first patch text = record { whole = refl; at = refl; below = omega arith }
+first patch text = record { whole = text_after-copy patch text; at = refl; below = omega arith }
 
 -- the inverse gives the text back
 pub text_after-inverse : (patch : Patch) (text : List ℕ) → ((index : ℕ) → ¬ (Overlaps patch index)) → ((index : ℕ) → ¬ (EndsAfter patch (length text) index))
     → text_after (inverse patch text) (text_after patch text) ≡ text
 unfolding text_after inverse
 text_after-inverse patch text ordered inside =
-    undone_from text (text_after patch text) [] 0 0 0 patch.ops (laid patch (length text) ordered inside) (first patch text)
+    ap (λ new. patched (inverse patch text) new (text_after patch text)) (sym (inserted-inverse_operations 0 0 text patch.ops))
+    ∙ patched-inverse patch text (inserted patch) text ordered inside refl refl
 
 whole_of : (patch : Patch) (text : List ℕ) → CanApply patch text → Whole text patch.ops
 whole_of patch text can index operation is =

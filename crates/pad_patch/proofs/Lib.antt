@@ -1,6 +1,12 @@
 pub mod Elements
 pub mod Cuts
 pub mod Laid
+pub mod Patched
 pub mod Copies
 pub mod Misfits
+pub mod Has
+pub mod Undone
+pub mod Kept
 pub mod Inverses
+pub mod Backs
+pub mod CallerLemmas

@@ -1,9 +1,10 @@
 -- What holds of every patch and every text.
-use Rattle.std.specs.Prelude.{◌≡◌, ℕ, List, [], All, length}
+use Rattle.std.specs.Prelude.{◌≡◌, ℕ, ◌<◌, ◌⊎◌, List, [], All, Some, length, map, slice_get}
 use Rattle.pad_text.specs.Text.{IsText}
 use Rattle.pad_patch.specs.declared.operation.Operation.{Operation}
 use Rattle.pad_patch.specs.declared.patch.Patch.{Patch}
-use Rattle.pad_patch.specs.Piece.{length_after, text_after}
+use Rattle.pad_patch.specs.Piece.{inserted, patched, length_after, text_after}
+use Rattle.pad_patch.specs.Removed.{Removes, IsKeptFrom, removed_by}
 use Rattle.pad_patch.specs.Misfit.{Overlaps, EndsAfter, CutsPairAt, CanApply, Fits}
 use Rattle.pad_patch.specs.Inverse.{inverse}
 
@@ -38,6 +39,45 @@ InverseApplies =
     (patch : Patch) (text : List ℕ) → IsText text → All (λ (operation : Operation). IsText operation.insert) patch.ops → CanApply patch text
     → CanApply (inverse patch text) (text_after patch text)
 
+-- and inserts texts
+abbrev pub InverseInsertsTexts : Type 0
+InverseInsertsTexts =
+    (patch : Patch) (text : List ℕ) → IsText text → CanApply patch text → All (λ (operation : Operation). IsText operation.insert) (inverse patch text).ops
+
 -- the inverse has one operation for each operation
 abbrev pub OneOperationEach : Type 0
 OneOperationEach = (patch : Patch) (text : List ℕ) → length (inverse patch text).ops ≡ length patch.ops
+
+-- the copy of what the elements are mapped to is what the elements of the copy are mapped to
+abbrev pub CopiesMap : (A B : Type 0) → Type 0
+CopiesMap A B = (f : A → B) (patch : Patch) (new old : List A) → map f (patched patch new old) ≡ patched patch (map f new) (map f old)
+
+-- a kept unit keeps its element in each list that the patch copies
+abbrev pub KeptElementsStay : Type 0 → Type 0
+KeptElementsStay A =
+    (patch : Patch) (new old : List A) (place at : ℕ) (element : A) → length new ≡ length (inserted patch) → IsKeptFrom patch (length old) place at
+    → slice_get old place ≡ Some element → slice_get (patched patch new old) at ≡ Some element
+
+-- each unit of a text is removed or kept
+abbrev pub RemovedOrKept : Type 0
+RemovedOrKept =
+    (patch : Patch) (size place : ℕ) → ((index : ℕ) → ¬ (Overlaps patch index)) → ((index : ℕ) → ¬ (EndsAfter patch size index)) → place < size
+    → Removes patch place ⊎ ((at : ℕ) × IsKeptFrom patch size place at)
+
+-- and not both
+abbrev pub KeptIsNotRemoved : Type 0
+KeptIsNotRemoved =
+    (patch : Patch) (size place at : ℕ) → ((index : ℕ) → ¬ (Overlaps patch index)) → ((index : ℕ) → ¬ (EndsAfter patch size index))
+    → IsKeptFrom patch size place at → ¬ (Removes patch place)
+
+-- the inverse gives back each list that the patch copies, where what the patch removed of it is put in again
+abbrev pub InverseGivesListsBack : Type 0 → Type 0
+InverseGivesListsBack A =
+    (patch : Patch) (text : List ℕ) (new old : List A) → ((index : ℕ) → ¬ (Overlaps patch index)) → ((index : ℕ) → ¬ (EndsAfter patch (length text) index))
+    → length text ≡ length old → length new ≡ length (inserted patch) → patched (inverse patch text) (removed_by patch.ops old) (patched patch new old) ≡ old
+
+-- a unit that the inverse keeps is one that the patch kept, turned round
+abbrev pub InverseTurnsRound : Type 0
+InverseTurnsRound =
+    (patch : Patch) (text : List ℕ) (place at : ℕ) → ((index : ℕ) → ¬ (Overlaps patch index)) → ((index : ℕ) → ¬ (EndsAfter patch (length text) index))
+    → IsKeptFrom (inverse patch text) (length (text_after patch text)) at place → IsKeptFrom patch (length text) place at

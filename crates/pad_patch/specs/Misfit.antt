@@ -4,13 +4,14 @@ use Rattle.pad_text.specs.Text.{CutsPair}
 use Rattle.pad_text.specs.Hash.{document_hash}
 use Rattle.pad_patch.specs.declared.operation.Operation.{Operation}
 use Rattle.pad_patch.specs.declared.patch.Patch.{Patch}
+use Rattle.pad_patch.specs.declared.patch.TheConstants.{LONGEST_TEXT}
 use Rattle.pad_patch.specs.declared.misfit.Misfit.{Misfit}
 use Rattle.pad_patch.specs.declared.misfit.Misfit.TheVariants.{Order, Range, Pair, TooLong, BeforeHash}
 use Rattle.pad_patch.specs.Piece.{end_of, text_after}
 
 -- the longest text, in units
 abbrev pub longest_text : ℕ
-longest_text = 262144
+longest_text = LONGEST_TEXT
 
 -- the operation at this index
 abbrev pub IsOperation : Patch → ℕ → Operation → Type 0

@@ -1,5 +1,6 @@
 //! Laws over the definitions, each proved once.
-ghost use Rattle.pad_patch.specs.Laws.{NoOperationsChangeNothing, LengthIsCounted, TextsStayTexts, FittingApplies, InverseGivesBack, InverseApplies, OneOperationEach};
+ghost use Rattle.pad_patch.specs.Laws.{NoOperationsChangeNothing, LengthIsCounted, TextsStayTexts, FittingApplies, InverseGivesBack, InverseApplies, InverseInsertsTexts, OneOperationEach};
+ghost use Rattle.pad_patch.specs.Laws.{CopiesMap, KeptElementsStay, RemovedOrKept, KeptIsNotRemoved, InverseGivesListsBack, InverseTurnsRound};
 
 /// A patch without operations leaves every text.
 pub fn no_operations_change_nothing()
@@ -31,7 +32,42 @@ pub fn inverse_applies()
     ensures { InverseApplies }
 {}
 
+/// The inverse of a patch inserts texts.
+pub fn inverse_inserts_texts()
+    ensures { InverseInsertsTexts }
+{}
+
 /// The inverse has one operation for each operation.
 pub fn one_operation_each()
     ensures { OneOperationEach }
+{}
+
+/// A patch copies what the elements of a list are mapped to as it copies the list.
+pub fn copies_map<A, B>()
+    ensures { CopiesMap A B }
+{}
+
+/// A unit that a patch keeps keeps its element in each list that the patch copies.
+pub fn kept_elements_stay<A>()
+    ensures { KeptElementsStay A }
+{}
+
+/// A patch removes each unit of a text or keeps it.
+pub fn removed_or_kept()
+    ensures { RemovedOrKept }
+{}
+
+/// It does not remove a unit that it keeps.
+pub fn kept_is_not_removed()
+    ensures { KeptIsNotRemoved }
+{}
+
+/// The inverse of a patch gives back each list that the patch copies.
+pub fn inverse_gives_lists_back<A>()
+    ensures { InverseGivesListsBack A }
+{}
+
+/// A unit that the inverse of a patch keeps is one that the patch kept.
+pub fn inverse_turns_round()
+    ensures { InverseTurnsRound }
 {}

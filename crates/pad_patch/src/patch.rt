@@ -1,4 +1,5 @@
-ghost use Rattle.std.specs.Prelude.{◌≡◌, ℕ, ◌^◌, ◌<◌, ◌↔◌, List, length, IfOk, IfErr, IsOk, OnOk, IsTrue};
+ghost use Rattle.std.specs.Prelude.{◌≡◌, ℕ, ◌^◌, ◌<◌, ◌↔◌, List, length, All, IfOk, IfErr, IsOk, OnOk, IsTrue};
+ghost use Rattle.pad_text.specs.Text.{IsText};
 ghost use Rattle.pad_text.specs.Hash.{document_hash};
 ghost use Rattle.pad_patch.specs.Piece.{length_after, text_after};
 ghost use Rattle.pad_patch.specs.Inverse.{inverse};
@@ -12,7 +13,7 @@ use pad_text::Name;
 use std::alloc::{AllocError, Global};
 
 /// The most units that a text may have after a patch.
-const LONGEST_TEXT: usize = 262_144;
+pub const LONGEST_TEXT: usize = 262_144;
 
 /// Operations that all speak of one text, and that text's document hash.
 #[derive(Debug, Drop)]
@@ -100,8 +101,39 @@ impl Patch {
         })
     }
 
+    /// A copy of the patch.
+    pub fn copy(&self, alloc: Global) -> Result<Patch, AllocError>
+        ensures copy { IfOk result (λ copy. copy ≡ self.now) }
+        ensures texts { OnOk result (All (λ operation. IsText operation.insert) self.now.ops) }
+    {
+        let mut ops = Vec::new(alloc);
+        for op in self.ops.as_slice() {
+            ops.push(op.copy(alloc)?)?;
+        }
+        Ok(Patch {
+            ops: Operations::new(ops),
+            before: self.before,
+        })
+    }
+
+    /// The length in units of a text of `size` units after the patch.
+    pub fn length_after(&self, size: usize) -> usize
+        requires ordered { (index : ℕ) → ¬ (Overlaps self.now index) }
+        requires inside { (index : ℕ) → ¬ (EndsAfter self.now size index) }
+        requires small { length_after self.now size < 2 ^ 32 }
+        ensures { result ≡ length_after self.now size }
+    {
+        let mut length = 0;
+        let mut place = 0;
+        for op in self.ops.as_slice() {
+            length += op.start() - place + op.insert.len();
+            place = op.end();
+        }
+        length + (size - place)
+    }
+
     /// The first operation that starts before the one before it ends.
-    fn first_overlap(&self) -> Option<usize>
+    pub fn first_overlap(&self) -> Option<usize>
         ensures { IsLeast (Overlaps self.now) result }
     {
         let ops = self.ops.as_slice();
@@ -114,7 +146,7 @@ impl Patch {
     }
 
     /// The first operation that ends after a text of this length.
-    fn first_past(&self, size: usize) -> Option<usize>
+    pub fn first_past(&self, size: usize) -> Option<usize>
         ensures { IsLeast (EndsAfter self.now size) result }
     {
         for (index, op) in self.ops.as_slice().iter().enumerate() {

@@ -1,25 +1,28 @@
 -- What a work is after it was carried over another patch.
 use Rattle.std.proofs.Common.{◌≡◌, ℕ, zero, suc, ◌<◌, ◌≤◌, ◌⊎◌, inl, inr, Bool, true, false, cond, ◌&&◌, ◌==◌, List, [], ◌∷◌, length, refl, sym, ◌∙◌, ap, subst, arith}
-use Rattle.std.specs.Prelude.{Option, Some, None, slice_get}
+use Rattle.std.specs.Prelude.{Option, Some, None, All, slice_get}
 use Rattle.std.specs.Option.{option_and_then}
 use Rattle.std.specs.List.{filter_map, cons_option}
 use Rattle.std.proofs.lemmas.Bool.{eqb-false, cases_lt}
-use Rattle.pad_text.specs.Text.{CutsPair}
+use Rattle.pad_text.specs.Text.{IsText, CutsPair}
+use Rattle.pad_text.proofs.Texts.{IsText-append}
+use Rattle.std.proofs.lemmas.List.Elements.{All-nil, All-cons, All-head, All-tail}
 use Rattle.pad_text.specs.Hash.{document_hash}
 use Rattle.pad_text.specs.declared.name.Name.{Name}
 use Rattle.pad_patch.specs.declared.operation.Operation.{Operation}
 use Rattle.pad_patch.specs.declared.patch.Patch.{Patch}
 use Rattle.pad_patch.specs.declared.misfit.Misfit.TheVariants.{Order, Range, Pair, TooLong, BeforeHash}
-use Rattle.pad_patch.specs.Piece.{end_of, inserted}
+use Rattle.pad_patch.specs.Piece.{end_of, inserted, insertions}
 use Rattle.pad_patch.specs.Misfit.{Overlaps, CanApply}
 use Rattle.pad_merge.specs.Merge.{IsNormal}
-use Rattle.pad_transform.specs.Table.{adjusted, transformed, unless_empty, through, transformed_all}
+use Rattle.pad_transform.specs.Table.{adjusted, transformed, unless_noop, through, transformed_all}
 use Rattle.pad_transform.specs.Carried.{FitsButLength, RemovesOnlyKept}
 use Rattle.pad_stroke.specs.Through.{together, in_front, joined, carried}
-use Rattle.pad_stroke.specs.Strip.{insertions}
 use Rattle.pad_stroke.specs.Work.{Marked, IsWork}
-use Rattle.pad_stroke.proofs.Joints.{IsFront, touching, apart, front_cases, insertions-joined, IsSpaced, spaced-joined}
-use Rattle.pad_stroke.proofs.Normal.{AreNeeded, row_of, normal_spaced, ordered_normal}
+use Rattle.pad_stroke.proofs.Joints.{IsFront, touching, apart, front_cases, insertions-joined, spaced-joined}
+use Rattle.pad_merge.proofs.CallerLemmas.{IsSpaced, normal_spaced}
+use Rattle.pad_transform.proofs.CallerLemmas.{insert-through}
+use Rattle.pad_stroke.proofs.Normal.{AreNeeded, row_of, ordered_normal}
 
 abbrev IsNeeded : Operation → Type 0
 IsNeeded operation = (0 < operation.remove) ⊎ (0 < length operation.insert)
@@ -38,7 +41,7 @@ needed_by operation false test removes inserts c is =
     subst IsNeeded same (inl (omega arith))
 
 -- an operation that is not dropped is not empty
-needed_unless : (operation c : Operation) → unless_empty operation ≡ Some c → IsNeeded c
+needed_unless : (operation c : Operation) → unless_noop operation ≡ Some c → IsNeeded c
 needed_unless operation c is = needed_by operation (operation.remove == 0) (length operation.insert == 0) refl refl c is
 
 needed_step : (b c : Operation) (o : Option Operation) → option_and_then (λ moved. transformed moved b) o ≡ Some c → IsNeeded c
@@ -190,7 +193,7 @@ removes_in_front operation (next ∷ later) place (index, joint, is, first, last
     removes_front operation next later (in_front operation (next ∷ later)) index place joint (front_cases operation next later) is first last
 
 -- joined operations remove what the operations remove
-removes_joined : (operations : List Operation) (place : ℕ) → RemovesAt (joined operations) place → RemovesAt operations place
+pub removes_joined : (operations : List Operation) (place : ℕ) → RemovesAt (joined operations) place → RemovesAt operations place
 removes_joined [] place removes = removes
 removes_joined (operation ∷ operations) place removes = elim (removes_in_front operation (joined operations) place removes) [
   | inl here ↦ (0, operation, refl, here.0, here.1)
@@ -224,6 +227,36 @@ fits_applies patch text can same (Pair index) is = absurd (can.whole index is)
 fits_applies patch text can same TooLong is = refl
 fits_applies patch text can same BeforeHash is = absurd (is same)
 
+abbrev pub InsertsText : Operation → Type 0
+InsertsText operation = IsText operation.insert
+
+-- transformed operations insert texts if the operations did
+texts_option : (by : List Operation) (a : Operation) (o : Option Operation) (operations : List Operation) → through by a ≡ o → IsText a.insert → All InsertsText operations
+    → All InsertsText (cons_option o operations)
+texts_option by a None operations is text rest = rest
+texts_option by a (Some c) operations is text rest = All-cons InsertsText c operations (subst IsText (sym (insert-through by a c is)) text) rest
+
+pub texts-transformed : (by operations : List Operation) → All InsertsText operations → All InsertsText (filter_map (through by) operations)
+texts-transformed by [] all = All-nil InsertsText
+texts-transformed by (a ∷ operations) all =
+    texts_option by a (through by a) (filter_map (through by) operations) refl (All-head InsertsText a operations all) (texts-transformed by operations (All-tail InsertsText a operations all))
+
+texts_by : (operation next : Operation) (later front : List Operation) → IsFront operation next later front → IsText operation.insert → All InsertsText (next ∷ later) → All InsertsText front
+texts_by operation next later front (touching same is) text rest =
+    subst (All InsertsText) (sym is)
+    (All-cons InsertsText (together operation next) later (IsText-append operation.insert next.insert text (All-head InsertsText next later rest)) (All-tail InsertsText next later rest))
+texts_by operation next later front (apart other is) text rest = subst (All InsertsText) (sym is) (All-cons InsertsText operation (next ∷ later) text rest)
+
+texts_in_front : (operation : Operation) (later : List Operation) → IsText operation.insert → All InsertsText later → All InsertsText (in_front operation later)
+texts_in_front operation [] text rest = All-cons InsertsText operation [] text rest
+texts_in_front operation (next ∷ later) text rest = texts_by operation next later (in_front operation (next ∷ later)) (front_cases operation next later) text rest
+
+-- and so do joined ones
+pub texts-joined : (operations : List Operation) → All InsertsText operations → All InsertsText (joined operations)
+texts-joined [] all = All-nil InsertsText
+texts-joined (operation ∷ operations) all =
+    texts_in_front operation (joined operations) (All-head InsertsText operation operations all) (texts-joined operations (All-tail InsertsText operation operations all))
+
 -- the work on the text after `by`, of which `moved` has the operations one by one
 module _ (work : Marked) (by moved : Patch) (after : Name) (is_work : IsWork work) (is : moved.ops ≡ transformed_all work.patch by)
     (ordered : ((index : ℕ) → ¬ (Overlaps work.patch index)) → (index : ℕ) → ¬ (Overlaps moved index)) where
@@ -246,8 +279,8 @@ module _ (work : Marked) (by moved : Patch) (after : Name) (is_work : IsWork wor
   unfolding carried
   IsWork-carried same = record {
     normal = normal;
+    texts = texts-joined (transformed_all work.patch by) (texts-transformed by.ops work.patch.ops is_work.texts);
     counted = is_work.counted ∙ ap length (sym (inserted-carried same));
-    different = is_work.different;
   }
 
   pub CanApply-carried : (text : List ℕ) → CanApply moved text → CanApply (carried work by after).patch text

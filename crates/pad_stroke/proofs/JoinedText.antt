@@ -1,8 +1,9 @@
 -- Joined operations do to a text what the operations do.
-use Rattle.std.proofs.Common.{◌≡◌, ℕ, ◌-◌, List, [], ◌∷◌, ◌++◌, length, take, drop, refl, ◌∙◌, ap, append_assoc, arith}
+use Rattle.std.proofs.Common.{◌≡◌, ℕ, ◌-◌, List, [], ◌∷◌, ◌++◌, length, take, drop, refl, sym, ◌∙◌, ap, append_assoc, arith}
 use Rattle.std.specs.List.{flat_map}
 use Rattle.pad_patch.specs.declared.operation.Operation.{Operation}
-use Rattle.pad_patch.specs.Piece.{end_of, pieces_from, units_of_piece, text_after}
+use Rattle.pad_patch.specs.Piece.{end_of, pieces_from, text_after}
+use Rattle.pad_patch.proofs.CallerLemmas.{units_of_piece, text_after-copy}
 use Rattle.pad_stroke.specs.Through.{together, in_front, joined}
 use Rattle.pad_stroke.specs.Laws.{JoiningChangesNothing}
 use Rattle.pad_stroke.proofs.Joints.{IsFront, touching, apart, front_cases}
@@ -41,5 +42,5 @@ text_joined text place (operation ∷ operations) =
     ∙ ap (λ us. take (operation.offset - place) (drop place text) ++ (operation.insert ++ us)) (text_joined text (end_of operation) operations)
 
 pub joining_changes_nothing : JoiningChangesNothing
-unfolding text_after
-joining_changes_nothing patch text = text_joined text 0 patch.ops
+joining_changes_nothing patch text =
+    text_after-copy (record patch { ops = joined patch.ops }) text ∙ text_joined text 0 patch.ops ∙ sym (text_after-copy patch text)

@@ -6,14 +6,11 @@ use Rattle.std.proofs.lemmas.Option.{slice_get-get_or, slice_get_within, get_or_
 use Rattle.pad_text.specs.Text.{IsText}
 use Rattle.pad_patch.specs.declared.operation.Operation.{Operation}
 use Rattle.pad_patch.specs.declared.patch.Patch.{Patch}
-use Rattle.pad_patch.specs.Piece.{end_of, text_after, inserted}
+use Rattle.pad_patch.specs.Piece.{end_of, text_after, inserted, insertions}
 use Rattle.pad_transform.specs.Table.{through, transformed_all}
 use Rattle.pad_transform.specs.Carried.{BothApply}
-use Rattle.pad_transform.proofs.Cases.{Moved, behind, within, before, across, last_step}
-use Rattle.pad_transform.proofs.Order.{image_of}
-use Rattle.pad_transform.proofs.Law.{CanApply-moved}
+use Rattle.pad_transform.proofs.CallerLemmas.{Moved, behind, within, before, across, last_step, image_of, CanApply-moved}
 use Rattle.pad_stroke.specs.Through.{joined}
-use Rattle.pad_stroke.specs.Strip.{insertions}
 use Rattle.pad_stroke.specs.Laws.{JointsFitWithin, JointsFitWithRoom}
 use Rattle.pad_stroke.proofs.Carrying.{joint_of}
 

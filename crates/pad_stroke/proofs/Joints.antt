@@ -5,9 +5,9 @@ use Rattle.std.proofs.lemmas.List.Elements.{All-head}
 use Rattle.std.proofs.lemmas.List.{length-append}
 use Rattle.std.proofs.lemmas.Bool.{eqb-true, eqb-false, eq-eqb, ne_eqb}
 use Rattle.pad_patch.specs.declared.operation.Operation.{Operation}
-use Rattle.pad_patch.specs.Piece.{end_of}
+use Rattle.pad_patch.specs.Piece.{end_of, insertions}
+use Rattle.pad_merge.proofs.CallerLemmas.{IsSpaced}
 use Rattle.pad_stroke.specs.Through.{together, in_front, joined}
-use Rattle.pad_stroke.specs.Strip.{insertions}
 
 -- the two ways in which an operation stands in front of others
 pub data IsFront (operation next : Operation) (later front : List Operation) : Type 0 where
@@ -95,12 +95,6 @@ abbrev pub IsRow : ℕ → List Operation → Type 0
 IsRow low [] = Unit {0}
 IsRow low (operation ∷ operations) =
     (low ≤ operation.offset) × ((0 < operation.remove) ⊎ (0 < length operation.insert)) × IsRow (end_of operation) operations
-
--- the same, and no two of them touch
-abbrev pub IsSpaced : ℕ → List Operation → Type 0
-IsSpaced low [] = Unit {0}
-IsSpaced low (operation ∷ operations) =
-    (low ≤ operation.offset) × ((0 < operation.remove) ⊎ (0 < length operation.insert)) × IsSpaced (suc (end_of operation)) operations
 
 needed-together : (first second : Operation) → (0 < first.remove) ⊎ (0 < length first.insert)
     → (0 < (together first second).remove) ⊎ (0 < length (together first second).insert)

@@ -10,3 +10,7 @@ pub mod JoinedText
 pub mod ShownMarks
 pub mod WholePairs
 pub mod PlainUnits
+pub mod Moved
+pub mod AnyWork
+pub mod InTurnLaws
+pub mod CallerLemmas

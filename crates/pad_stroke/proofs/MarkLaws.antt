@@ -9,8 +9,8 @@ use Rattle.std.proofs.lemmas.Option.{slice_get_within, get_or_from_slice_get}
 use Rattle.pad_merge.specs.declared.origin.Origin.{Origin}
 use Rattle.pad_merge.specs.declared.origin.Origin.TheVariants.{First, Second}
 use Rattle.pad_merge.specs.Origin.{origins}
-use Rattle.pad_merge.proofs.Named.{named_at}
-use Rattle.pad_merge.proofs.Places.{stands_of_second}
+use Rattle.pad_merge.proofs.CallerLemmas.{named_at}
+use Rattle.pad_merge.proofs.CallerLemmas.{stands_of_second}
 use Rattle.pad_stroke.specs.declared.mark.Mark.{Mark}
 use Rattle.pad_stroke.specs.InTurn.{no_mark, mark_from, NamesUnit, in_turn}
 use Rattle.pad_stroke.specs.Strip.{same_mark, stays, stripped}
@@ -33,7 +33,7 @@ same_true first second is =
     let mark : ℕ → ℕ → Mark = λ stroke index. record { stroke = stroke; index = index } in
     ap (λ n. mark n first.index) strokes ∙ ap (mark second.stroke) indexes
 
-same_self : (mark : Mark) → same_mark mark mark ≡ true
+pub same_self : (mark : Mark) → same_mark mark mark ≡ true
 same_self mark =
     ap (λ t. t && (mark.index == mark.index)) (eq-eqb mark.stroke mark.stroke refl) ∙ ap (λ t. true && t) (eq-eqb mark.index mark.index refl)
 
@@ -93,7 +93,7 @@ none_by : (x : Mark) (gone : List Mark) (mark : Mark) → ¬ (Contains (x ∷ go
 none_by x gone mark none rest true same = absurd (none (at_head x gone mark (same_true x mark same)))
 none_by x gone mark none rest false other = rest
 
-stays_none : (gone : List Mark) (mark : Mark) → ¬ (Contains gone mark) → stays gone mark ≡ true
+pub stays_none : (gone : List Mark) (mark : Mark) → ¬ (Contains gone mark) → stays gone mark ≡ true
 stays_none [] mark none = refl
 stays_none (x ∷ gone) mark none =
     none_by x gone mark none (stays_none gone mark (λ later. none (in_tail x gone mark later))) (same_mark x mark) refl

@@ -1,18 +1,21 @@
 -- What a work is without the units that another one inserts.
 use Rattle.std.proofs.Common.{◌≡◌, ℕ, zero, suc, ◌+◌, ◌<◌, ◌≤◌, ◌⊎◌, inl, inr, Bool, true, false, cond, List, [], ◌∷◌, ◌++◌, length, take, drop, set, get_or, slice_index_or, refl, sym, ◌∙◌, ap, subst, arith, append_assoc}
-use Rattle.std.specs.Prelude.{◌≢◌, ◌||◌, Some, filter, nat_lt, slice_get}
-use Rattle.std.proofs.lemmas.Bool.{ltb-true, ltb-false}
+use Rattle.std.specs.Prelude.{◌≢◌, ◌==◌, ◌&&◌, not, All, Some, filter, slice_get}
+use Rattle.std.proofs.lemmas.Bool.{eqb-true, eqb-false}
 use Rattle.std.proofs.lemmas.List.{take_more_set, drop-set-lt, drop_more, nil_from_length, length-append, length-drop}
+use Rattle.std.proofs.lemmas.List.Elements.{All-nil, All-cons, All-head, All-tail}
 use Rattle.std.proofs.lemmas.List.Kept.{AllPairs-filter}
-use Rattle.pad_text.specs.Text.{CutsPair}
+use Rattle.pad_text.specs.Text.{IsText, CutsPair}
 use Rattle.pad_patch.specs.declared.operation.Operation.{Operation}
-use Rattle.pad_patch.specs.Piece.{end_of, inserted}
+use Rattle.pad_patch.specs.Piece.{end_of, inserted, insertions}
 use Rattle.pad_patch.specs.Misfit.{CanApply}
 use Rattle.pad_stroke.specs.declared.mark.Mark.{Mark}
-use Rattle.pad_stroke.specs.Strip.{stays, staying, insertions, thinned, is_needed, stripped}
+use Rattle.pad_stroke.specs.Strip.{stays, staying, thinned, is_needed, stripped}
+use Rattle.pad_merge.specs.Merge.{IsNormal}
+use Rattle.pad_stroke.specs.Mark.{NoRepeat}
 use Rattle.pad_stroke.specs.Work.{Marked, IsWork}
-use Rattle.pad_stroke.proofs.Joints.{IsSpaced}
-use Rattle.pad_stroke.proofs.Normal.{spaced_normal, normal_spaced, ordered_normal}
+use Rattle.pad_merge.proofs.CallerLemmas.{IsSpaced, spaced_normal, normal_spaced}
+use Rattle.pad_stroke.proofs.Normal.{ordered_normal}
 
 -- an element and those behind it
 pub next_of : {X : Type 0} (xs : List X) (i : ℕ) (x : X) → i < length xs → x ≡ get_or xs i x → drop i xs ≡ x ∷ drop (i + 1) xs
@@ -80,7 +83,7 @@ staying-append gone (x ∷ xs) ys (mark ∷ marks) enough =
     by_test us vs ws u false is = is
 
 -- as many units stay as marks do
-length-staying : (gone : List Mark) (units : List ℕ) (marks : List Mark) → length units ≡ length marks → length (staying gone units marks) ≡ length (filter (stays gone) marks)
+pub length-staying : (gone : List Mark) (units : List ℕ) (marks : List Mark) → length units ≡ length marks → length (staying gone units marks) ≡ length (filter (stays gone) marks)
 length-staying gone [] [] same = refl
 length-staying gone [] (mark ∷ marks) same = absurd (omega arith)
 length-staying gone (unit ∷ units) [] same = absurd (omega arith)
@@ -92,7 +95,7 @@ length-staying gone (unit ∷ units) (mark ∷ marks) same =
     by_test us ms u m false is = is
 
 -- what is inserted are the units that stay
-insertions-thinned : (gone : List Mark) (operations : List Operation) (marks : List Mark) → length (insertions operations) ≤ length marks
+pub insertions-thinned : (gone : List Mark) (operations : List Operation) (marks : List Mark) → length (insertions operations) ≤ length marks
     → insertions (thinned gone operations marks) ≡ staying gone (insertions operations) marks
 insertions-thinned gone [] marks enough = refl
 insertions-thinned gone (operation ∷ operations) marks enough =
@@ -102,25 +105,20 @@ insertions-thinned gone (operation ∷ operations) marks enough =
     ∙ sym (staying-append gone operation.insert (insertions operations) marks (omega arith))
 
 -- what a test of two tells
-not_needed : (operation : Operation) (removes inserts : Bool) → nat_lt 0 operation.remove ≡ removes → nat_lt 0 (length operation.insert) ≡ inserts → (removes || inserts) ≡ false
+not_needed : (operation : Operation) (removes inserts : Bool) → (operation.remove == 0) ≡ removes → (length operation.insert == 0) ≡ inserts → not (removes && inserts) ≡ false
     → operation.insert ≡ []
-not_needed operation removes true is_remove is_insert nothing = absurd (cc_or removes nothing)
-  where
-    cc_or : (b : Bool) → (b || true) ≡ false → ⊥
-    cc_or true is = cc
-    cc_or false is = cc
-not_needed operation removes false is_remove is_insert nothing =
-    let none = ltb-false 0 (length operation.insert) is_insert in
-    nil_from_length operation.insert (omega arith)
+not_needed operation true true is_remove is_insert nothing = nil_from_length operation.insert (eqb-true (length operation.insert) 0 is_insert)
+not_needed operation true false is_remove is_insert nothing = cc
+not_needed operation false inserts is_remove is_insert nothing = cc
 
 insertions-filter_by : (operation : Operation) (operations : List Operation) (test : Bool) → is_needed operation ≡ test
     → insertions (cond test (operation ∷ operations) operations) ≡ operation.insert ++ insertions operations
 insertions-filter_by operation operations true is = refl
 insertions-filter_by operation operations false is =
-    ap (λ us. us ++ insertions operations) (sym (not_needed operation (nat_lt 0 operation.remove) (nat_lt 0 (length operation.insert)) refl refl is))
+    ap (λ us. us ++ insertions operations) (sym (not_needed operation (operation.remove == 0) (length operation.insert == 0) refl refl is))
 
 -- operations that are left out insert nothing
-insertions-filter : (operations : List Operation) → insertions (filter is_needed operations) ≡ insertions operations
+pub insertions-filter : (operations : List Operation) → insertions (filter is_needed operations) ≡ insertions operations
 insertions-filter [] = refl
 insertions-filter (operation ∷ operations) =
     insertions-filter_by operation (filter is_needed operations) (is_needed operation) refl ∙ ap (λ us. operation.insert ++ us) (insertions-filter operations)
@@ -139,15 +137,16 @@ clear-thinned gone low [] marks spaced = tt
 clear-thinned gone low (operation ∷ operations) marks spaced =
     (spaced.0, clear-thinned gone (suc (end_of operation)) operations (drop (length operation.insert) marks) spaced.2)
 
-needed_true : (operation : Operation) (removes : Bool) → nat_lt 0 operation.remove ≡ removes → (removes || nat_lt 0 (length operation.insert)) ≡ true
+needed_true : (operation : Operation) (removes inserts : Bool) → (operation.remove == 0) ≡ removes → (length operation.insert == 0) ≡ inserts → not (removes && inserts) ≡ true
     → (0 < operation.remove) ⊎ (0 < length operation.insert)
-needed_true operation true is needed = inl (ltb-true 0 operation.remove is)
-needed_true operation false is needed = inr (ltb-true 0 (length operation.insert) needed)
+needed_true operation true true is_remove is_insert needed = cc
+needed_true operation true false is_remove is_insert needed = let some : length operation.insert ≡ 0 → ⊥ = eqb-false (length operation.insert) 0 is_insert in inr (omega arith)
+needed_true operation false inserts is_remove is_insert needed = let some : operation.remove ≡ 0 → ⊥ = eqb-false operation.remove 0 is_remove in inl (omega arith)
 
 spaced-filter_by : (low : ℕ) (operation : Operation) (operations : List Operation) (test : Bool) → is_needed operation ≡ test → low ≤ operation.offset
     → IsSpaced (suc (end_of operation)) operations → IsSpaced low (cond test (operation ∷ operations) operations)
 spaced-filter_by low operation operations true is starts spaced =
-    (starts, needed_true operation (nat_lt 0 operation.remove) refl is, spaced)
+    (starts, needed_true operation (operation.remove == 0) (length operation.insert == 0) refl refl is, spaced)
 spaced-filter_by low operation operations false is starts spaced =
     spaced_lower (suc (end_of operation)) low operations (omega arith) spaced
   where
@@ -160,19 +159,44 @@ spaced-filter low [] clear = tt
 spaced-filter low (operation ∷ operations) clear =
     spaced-filter_by low operation (filter is_needed operations) (is_needed operation) refl clear.0 (spaced-filter (suc (end_of operation)) operations clear.1)
 
--- a stripped work is a work
-pub IsWork-stripped : (work of : Marked) → IsWork work → IsWork (stripped work of)
+-- a stripped work is in normal form
+normal-stripped : (work of : Marked) → IsWork work → IsNormal (stripped work of).patch
 unfolding stripped
-IsWork-stripped work of is_work =
+normal-stripped work of is_work =
+    let thin = thinned of.marks work.patch.ops work.marks in
+    normal_spaced (stripped work of).patch (spaced-filter 0 thin (clear-thinned of.marks 0 work.patch.ops work.marks (spaced_normal work.patch is_work.normal)))
+
+abbrev InsertsText : Operation → Type 0
+InsertsText operation = IsText operation.insert
+
+-- what holds of all operations holds of those that are left
+pub all_filter : (operations : List Operation) → All InsertsText operations → All InsertsText (filter is_needed operations)
+all_filter [] all = All-nil InsertsText
+all_filter (operation ∷ operations) all =
+    by_test (is_needed operation) (all_filter operations (All-tail InsertsText operation operations all))
+  where
+    by_test : (test : Bool) → All InsertsText (filter is_needed operations) → All InsertsText (cond test (operation ∷ filter is_needed operations) (filter is_needed operations))
+    by_test true rest = All-cons InsertsText operation (filter is_needed operations) (All-head InsertsText operation operations all) rest
+    by_test false rest = rest
+
+-- no mark stands twice in a stripped work if none did before
+pub NoRepeat-stripped : (work of : Marked) → NoRepeat work.marks → NoRepeat (stripped work of).marks
+unfolding stripped
+NoRepeat-stripped work of different = AllPairs-filter (λ earlier later. earlier ≢ later) (stays of.marks) work.marks different
+
+-- a stripped work is a work
+pub IsWork-stripped : (work of : Marked) → IsWork work → All InsertsText (thinned of.marks work.patch.ops work.marks) → IsWork (stripped work of)
+unfolding stripped
+IsWork-stripped work of is_work texts =
     let gone = of.marks in
     let thin = thinned gone work.patch.ops work.marks in
     let enough : length (insertions work.patch.ops) ≤ length work.marks = let counted = is_work.counted in omega arith in
     record {
-      normal = normal_spaced (stripped work of).patch (spaced-filter 0 thin (clear-thinned gone 0 work.patch.ops work.marks (spaced_normal work.patch is_work.normal)));
+      normal = normal-stripped work of is_work;
+      texts = all_filter thin texts;
       counted =
           sym (ap length (insertions-filter thin ∙ insertions-thinned gone work.patch.ops work.marks enough)
           ∙ length-staying gone (insertions work.patch.ops) work.marks (sym is_work.counted));
-      different = AllPairs-filter (λ earlier later. earlier ≢ later) (stays gone) work.marks is_work.different;
     }
 
 -- it inserts the units that stay
@@ -191,12 +215,12 @@ stripped_is work of ops marks is_ops is_marks =
     ap (λ os. marked_of os marks) is_ops ∙ ap (marked_of (filter is_needed (thinned of.marks work.patch.ops work.marks))) is_marks
 
 -- where an operation of a stripped work comes from
-record IsPart (operations : List Operation) (part : Operation) : Type 0 where
-  index : ℕ
-  whole : Operation
-  stands : slice_get operations index ≡ Some whole
-  starts : part.offset ≡ whole.offset
-  removes : part.remove ≡ whole.remove
+pub record IsPart (operations : List Operation) (part : Operation) : Type 0 where
+  pub index : ℕ
+  pub whole : Operation
+  pub stands : slice_get operations index ≡ Some whole
+  pub starts : part.offset ≡ whole.offset
+  pub removes : part.remove ≡ whole.remove
 
 part_later : (operation part : Operation) (operations : List Operation) → IsPart operations part → IsPart (operation ∷ operations) part
 part_later operation part operations found = record {
@@ -222,7 +246,7 @@ part_by operation thin operations later true starts removes found zero part is =
 part_by operation thin operations later true starts removes found (suc index) part is = part_later operation part operations (found index part is)
 part_by operation thin operations later false starts removes found index part is = part_later operation part operations (found index part is)
 
-part_of : (gone : List Mark) (operations : List Operation) (marks : List Mark) (index : ℕ) (part : Operation)
+pub part_of : (gone : List Mark) (operations : List Operation) (marks : List Mark) (index : ℕ) (part : Operation)
     → slice_get (filter is_needed (thinned gone operations marks)) index ≡ Some part → IsPart operations part
 part_of gone [] marks index part is = cc
 part_of gone (operation ∷ operations) marks index part is =
@@ -234,7 +258,7 @@ part_of gone (operation ∷ operations) marks index part is =
 pub CanApply-stripped : (work of : Marked) (text : List ℕ) → IsWork work → CanApply work.patch text → CanApply (stripped work of).patch text
 unfolding stripped
 CanApply-stripped work of text is_work can = record {
-  ordered = ordered_normal (stripped work of).patch (IsWork-stripped work of is_work).normal;
+  ordered = ordered_normal (stripped work of).patch (normal-stripped work of is_work);
   inside = λ index (part, is, late).
       let found = part_of of.marks work.patch.ops work.marks index part is in
       can.inside found.index (found.whole, found.stands, omega (arith, found.starts, found.removes));

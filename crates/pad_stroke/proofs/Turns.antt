@@ -5,16 +5,18 @@ use Rattle.std.proofs.lemmas.Bool.{cases_lt}
 use Rattle.std.proofs.lemmas.List.{length-map, get_or-map, append-nil, append_assoc, take_all, get_or_default, length-drop}
 use Rattle.std.proofs.lemmas.List.FromFn.{length-map-range_with_len, get_or-map-range_with_len}
 use Rattle.std.proofs.lemmas.Option.{slice_get-get_or, slice_get_within}
-use Rattle.pad_text.specs.Text.{CutsPair}
+use Rattle.pad_text.specs.Text.{IsText, CutsPair}
 use Rattle.pad_text.specs.declared.name.Name.{Name}
 use Rattle.pad_patch.specs.declared.operation.Operation.{Operation}
 use Rattle.pad_patch.specs.declared.patch.Patch.{Patch}
 use Rattle.pad_patch.specs.Piece.{end_of, text_after, inserted}
 use Rattle.pad_patch.specs.Misfit.{CanApply}
+use Rattle.pad_patch.proofs.CallerLemmas.{text_after-copy}
 use Rattle.pad_merge.specs.declared.origin.Origin.{Origin}
 use Rattle.pad_merge.specs.declared.origin.Origin.TheVariants.{First, Second}
 use Rattle.pad_merge.specs.Merge.{merged, CanMerge, IsNormal}
 use Rattle.pad_merge.specs.Origin.{origins, named_unit}
+use Rattle.pad_merge.proofs.CallerLemmas.{texts-merged}
 use Rattle.pad_merge.specs.Laws.{OneOriginEach, OriginsNameUnits, NoOriginTwice}
 use Rattle.pad_stroke.specs.declared.mark.Mark.{Mark}
 use Rattle.pad_stroke.specs.Mark.{NoRepeat, NoneInBoth, marks_of}
@@ -75,13 +77,13 @@ module _ (first second : Marked) (size : ℕ) (names : OriginsNameUnits) (counte
       let twice = once first.patch second.patch size can i j a (slice_get-get_or os i past within_i) (slice_get-get_or os j past within_j ∙ ap Some (sym equal)) in
       absurd (omega arith)
 
-  pub IsWork-in_turn : OneOriginEach → NoOriginTwice → CanMerge first.patch second.patch size → IsNormal (merged first.patch second.patch size)
-      → NoRepeat first.marks → NoRepeat second.marks → NoneInBoth first.marks second.marks → IsWork (in_turn first second size)
+  pub IsWork-in_turn : OneOriginEach → IsNormal (merged first.patch second.patch size) → CanMerge first.patch second.patch size
+      → All (λ (operation : Operation). IsText operation.insert) first.patch.ops → All (λ (operation : Operation). IsText operation.insert) second.patch.ops → IsWork (in_turn first second size)
   unfolding in_turn
-  IsWork-in_turn one_each once can normal once_first once_second apart = record {
+  IsWork-in_turn one_each normal can firsts seconds = record {
     normal = normal;
+    texts = texts-merged first.patch second.patch size can firsts seconds;
     counted = length-map (origins first.patch second.patch size) (mark_from first.marks second.marks) ∙ one_each first.patch second.patch size;
-    different = NoRepeat-in_turn once can once_first once_second apart;
   }
 
 -- the fields of two works in turn
@@ -156,10 +158,10 @@ minus_zero n = omega arith
 
 -- what the operation makes of the shown text
 pub text_after-typed : (work : Marked) (operation : Operation) (stroke : ℕ) (shown : List ℕ) → text_after (typed work operation stroke).patch shown ≡ shown_after operation shown
-unfolding text_after
 text_after-typed work operation stroke shown =
     let start = take operation.offset shown in
     let end = drop (end_of operation) shown in
-    ap (λ n. take n shown ++ (operation.insert ++ (take (length shown - end_of operation) end ++ []))) (minus_zero operation.offset)
+    text_after-copy (typed work operation stroke).patch shown
+    ∙ ap (λ n. take n shown ++ (operation.insert ++ (take (length shown - end_of operation) end ++ []))) (minus_zero operation.offset)
     ∙ ap (λ us. start ++ (operation.insert ++ us)) (append-nil (take (length shown - end_of operation) end) ∙ take_all (length shown - end_of operation) end (omega (arith, length-drop (end_of operation) shown)))
     ∙ sym (append_assoc start operation.insert end)

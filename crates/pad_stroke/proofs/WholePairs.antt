@@ -16,7 +16,8 @@ use Rattle.pad_text.proofs.Texts.{IsText-nil, IsText-append, IsText-chars, spell
 use Rattle.pad_patch.specs.declared.operation.Operation.{Operation}
 use Rattle.pad_stroke.specs.declared.mark.Mark.{Mark}
 use Rattle.pad_stroke.specs.InTurn.{no_mark}
-use Rattle.pad_stroke.specs.Strip.{stays, staying, insertions, thinned, KeepsPairs}
+use Rattle.pad_patch.specs.Piece.{insertions}
+use Rattle.pad_stroke.specs.Strip.{stays, staying, thinned, KeepsPairs}
 use Rattle.pad_stroke.specs.Laws.{PairsStayWhole}
 
 -- the same, with the place of the first unit of each pair

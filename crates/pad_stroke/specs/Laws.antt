@@ -1,19 +1,17 @@
 -- What holds of all works.
 use Rattle.std.specs.Prelude.{◌≡◌, ℕ, ◌+◌, ◌<◌, ◌^◌, ◌⊎◌, ◌↔◌, List, [], ◌++◌, length, map, take, drop, Option, Some, None, replicate, count_by, Contains, All}
 use Rattle.std.specs.List.{filter_map}
-use Rattle.std.specs.Option.{option_map}
 use Rattle.pad_text.specs.Text.{IsText}
 use Rattle.pad_patch.specs.declared.operation.Operation.{Operation}
 use Rattle.pad_patch.specs.declared.patch.Patch.{Patch}
 use Rattle.pad_patch.specs.Piece.{end_of, text_after, inserted}
-use Rattle.pad_merge.specs.declared.origin.Origin.TheVariants.{First}
-use Rattle.pad_merge.specs.Origin.{origins_after}
 use Rattle.pad_transform.specs.Table.{transformed_all}
 use Rattle.pad_transform.specs.Carried.{BothApply}
 use Rattle.pad_stroke.specs.declared.mark.Mark.{Mark}
 use Rattle.pad_stroke.specs.Mark.{NoRepeat, marks_of}
 use Rattle.pad_stroke.specs.Work.{Marked}
-use Rattle.pad_stroke.specs.InTurn.{mark_from, in_turn}
+use Rattle.pad_stroke.specs.Row.{Row, no_marks, shown_row}
+use Rattle.pad_stroke.specs.InTurn.{in_turn}
 use Rattle.pad_stroke.specs.Edit.{edited}
 use Rattle.pad_stroke.specs.Through.{joined}
 use Rattle.pad_stroke.specs.Strip.{same_mark, KeepsPairs, thinned, stripped}
@@ -52,9 +50,9 @@ abbrev pub somes : {A : Type 0} → List (Option A) → List A
 somes items = filter_map (λ item. item) items
 
 -- the marks of the units of the shown text, from left to right, where the text before the work has `size` units:
--- none where a unit is one of that text
-abbrev pub shown_marks : Marked → ℕ → List (Option Mark)
-shown_marks work size = map (option_map (mark_from work.marks [])) (origins_after First work.patch (replicate size None))
+-- none if a unit is one of that text
+abbrev pub shown_marks : Marked → ℕ → Row
+shown_marks work size = shown_row work (no_marks size)
 
 -- each mark of a work is shown, in order
 abbrev pub MarksAreShown : Type 0
@@ -63,7 +61,7 @@ MarksAreShown = (work : Marked) (size : ℕ) → length work.marks ≡ length (i
 -- an edit puts its marks in place of those of the shown units that it removes
 abbrev pub EditMarks : Type 0
 EditMarks =
-    (work : Marked) (operation : Operation) (stroke size : ℕ)
+    (work : Marked) (operation : Operation) (stroke size : ℕ) → length work.marks ≡ length (inserted work.patch)
     → (edited work operation stroke size).marks
     ≡ somes (take operation.offset (shown_marks work size) ++ (map Some (marks_of stroke (length operation.insert)) ++ drop (end_of operation) (shown_marks work size)))
 

@@ -1,5 +1,6 @@
 pub mod Mark
 pub mod Work
+pub mod Row
 pub mod InTurn
 pub mod Edit
 pub mod Through

@@ -1,8 +1,9 @@
 -- A work without the units that another one inserts.
-use Rattle.std.specs.Prelude.{◌≡◌, ℕ, ◌+◌, ◌==◌, ◌&&◌, ◌||◌, not, nat_lt, if◌then◌else◌, Bool, List, [], ◌∷◌, length, drop, filter, slice_index_or}
-use Rattle.std.specs.List.{flat_map, list_any}
+use Rattle.std.specs.Prelude.{◌≡◌, ℕ, ◌+◌, ◌==◌, ◌&&◌, not, if◌then◌else◌, Bool, List, [], ◌∷◌, length, drop, filter, slice_index_or}
+use Rattle.std.specs.List.{list_any}
 use Rattle.pad_text.specs.Text.{CutsPair}
 use Rattle.pad_patch.specs.declared.operation.Operation.{Operation}
+use Rattle.pad_patch.specs.Operation.{is_noop}
 use Rattle.pad_stroke.specs.declared.mark.Mark.{Mark}
 use Rattle.pad_stroke.specs.Work.{Marked}
 use Rattle.pad_stroke.specs.InTurn.{no_mark}
@@ -26,10 +27,6 @@ abbrev pub KeepsPairs : List Mark → List ℕ → List Mark → Type 0
 KeepsPairs gone units marks =
     (place : ℕ) → CutsPair units (place + 1) → stays gone (slice_index_or marks place no_mark) ≡ stays gone (slice_index_or marks (place + 1) no_mark)
 
--- the insertions of operations, joined
-abbrev pub insertions : List Operation → List ℕ
-insertions operations = flat_map (λ (operation : Operation). operation.insert) operations
-
 -- the operations with those inserted units alone, where each inserted unit has its mark
 abbrev pub thinned : List Mark → List Operation → List Mark → List Operation
 thinned gone [] marks = []
@@ -38,7 +35,7 @@ thinned gone (operation ∷ operations) marks =
 
 -- the operation removes or inserts something
 abbrev pub is_needed : Operation → Bool
-is_needed operation = nat_lt 0 operation.remove || nat_lt 0 (length operation.insert)
+is_needed operation = not (is_noop operation)
 
 -- the work without the units that the other one inserts: what is then empty of its operations is left out
 unfoldable pub stripped : Marked → Marked → Marked

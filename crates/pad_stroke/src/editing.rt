@@ -7,12 +7,9 @@ ghost use Rattle.pad_stroke.specs.Edit.{IsAllowed, IsCause};
 use crate::edit_refused::EditRefused;
 use crate::mark::Mark;
 use pad_merge::Origin;
-use pad_patch::Operation;
+use pad_patch::{LONGEST_TEXT, Operation};
 use pad_text::Text;
 use std::alloc::{AllocError, Global};
-
-/// The most units that a shown text may grow to.
-const LONGEST_TEXT: usize = 262_144;
 
 /// Whether an operation on the shown text is allowed.
 pub(crate) fn allow(shown: &Text, op: &Operation) -> Result<(), EditRefused>

@@ -1,6 +1,7 @@
 ghost use Rattle.std.specs.Prelude.{◌≡◌, ◌≤◌, length, filter, position, take, All};
 ghost use Rattle.pad_text.specs.Text.{IsText};
-ghost use Rattle.pad_stroke.specs.Strip.{insertions, same_mark, stays, staying, thinned, is_needed};
+ghost use Rattle.pad_patch.specs.Piece.{insertions};
+ghost use Rattle.pad_stroke.specs.Strip.{same_mark, stays, staying, thinned, is_needed};
 
 use crate::mark::Mark;
 use pad_patch::Operation;
@@ -76,18 +77,11 @@ fn place_of(mark: &Mark, marks: &[Mark]) -> Option<usize>
     marks.iter().position(|other| other == mark)
 }
 
-/// Whether an operation removes or inserts something.
-fn does_something(op: &Operation) -> bool
-    ensures { result ≡ is_needed op.now }
-{
-    0 < op.remove || 0 < op.insert.len()
-}
-
 /// Leaves out the operations that remove and insert nothing.
 fn leave_out_empty(ops: &mut Vec<Operation>)
     ensures { ops.new.items ≡ filter is_needed ops.old.items }
 {
-    ops.retain(|op| does_something(op));
+    ops.retain(|op| !op.is_noop());
 }
 
 /// Takes the inserted units whose marks are gone out of the operations.

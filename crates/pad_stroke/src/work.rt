@@ -1,4 +1,4 @@
-ghost use Rattle.std.specs.Prelude.{◌≡◌, ◌≢◌, ℕ, ◌^◌, ◌<◌, ◌↔◌, List, [], length, IfOk, IfErr, OnOk, OnErr, IsTrue, Contains};
+ghost use Rattle.std.specs.Prelude.{◌≡◌, ◌≢◌, ℕ, ◌^◌, ◌<◌, ◌↔◌, List, [], length, slice_get, Some, IfOk, IfErr, OnOk, OnErr, IsTrue, Contains};
 ghost use Rattle.std.specs.List.{All};
 ghost use Rattle.pad_text.specs.Text.{IsText};
 ghost use Rattle.pad_text.specs.Hash.{document_hash};
@@ -23,7 +23,7 @@ use pad_transform::transform;
 use std::alloc::{AllocError, Global};
 use std::marker::Model;
 
-/// Work that was not sent: a patch in normal form, and a mark for each unit that it inserts, no mark twice.
+/// Work that was not sent: a patch in normal form, and a mark for each unit that it inserts.
 /// Contracts see the patch and the list of the marks.
 #[derive(Debug, Drop)]
 pub struct Work {
@@ -43,7 +43,7 @@ impl Model for Work {
 
 impl Work {
     ghost use Rattle.pad_stroke.specs.Mark.{NoRepeat, NoneInBoth};
-    ghost use Rattle.pad_stroke.specs.Work.{IsWork, empty};
+    ghost use Rattle.pad_stroke.specs.Work.{IsWork, empty, moved_to};
     ghost use Rattle.pad_stroke.specs.InTurn.{in_turn};
     ghost use Rattle.pad_stroke.specs.Edit.{IsAllowed, IsCause, shown_after, typed, edited};
     ghost use Rattle.pad_stroke.specs.Through.{joined, carried};
@@ -81,6 +81,7 @@ impl Work {
             ≡ shown_after op (text_after self.old.patch (S.units text.now))) }
         ensures applies { OnOk result (CanApply self.new.patch (S.units text.now)) }
         ensures before { self.new.patch.before ≡ self.old.patch.before }
+        ensures different { OnOk result (NoRepeat self.old.marks → NoRepeat self.new.marks) }
         ensures work { IsWork self.new }
         ensures err { OnErr result (self.new ≡ self.old) }
 
@@ -96,17 +97,19 @@ impl Work {
     }
 
     /// Takes back work that was done before this one: it becomes that work, on a text of `len` units, and then this one.
-    /// The work is unchanged where there is no memory.
+    /// No mark stands twice after it if none did before and none stands in both works. The work is unchanged if there is
+    /// no memory.
     pub fn take_back(&mut self, alloc: Global, of: &Work, len: usize) -> Result<(), AllocError>
         requires small { len < 2 ^ 32 }
         requires can { CanMerge of.now.patch self.old.patch len }
-        requires apart { NoneInBoth of.now.marks self.old.marks }
         ensures taken_back { OnOk result (self.new ≡ in_turn of.now self.old len) }
         ensures both { OnOk result ((text : List ℕ) → length text ≡ len
             → text_after self.new.patch text ≡ text_after self.old.patch (text_after of.now.patch text)) }
         ensures applies { OnOk result ((text : List ℕ) → length text ≡ len → CanApply of.now.patch text
             → CanApply self.old.patch (text_after of.now.patch text) → CanApply self.new.patch text) }
         ensures before { OnOk result (self.new.patch.before ≡ of.now.patch.before) }
+        ensures different { OnOk result (NoRepeat of.now.marks → NoRepeat self.old.marks → NoneInBoth of.now.marks self.old.marks
+            → NoRepeat self.new.marks) }
         ensures work { IsWork self.new }
         ensures err { OnErr result (self.new ≡ self.old) }
     {
@@ -122,7 +125,7 @@ impl Work {
         ensures carried { OnOk result (self.new ≡ carried self.old by.now after.now) }
         ensures before { OnOk result (self.new.patch.before ≡ after.now) }
         ensures insertions { OnOk result (inserted self.new.patch ≡ inserted self.old.patch) }
-        ensures marks { OnOk result (self.new.marks ≡ self.old.marks) }
+        ensures marks { self.new.marks ≡ self.old.marks }
         ensures work { IsWork self.new }
         ensures err { OnErr result (self.new ≡ self.old) }
 
@@ -150,6 +153,7 @@ impl Work {
         ensures units { inserted self.new.patch ≡ staying of.now.marks (inserted self.old.patch) self.old.marks }
         ensures applies { (text : List ℕ) → CanApply self.old.patch text → CanApply self.new.patch text }
         ensures before { self.new.patch.before ≡ self.old.patch.before }
+        ensures different { NoRepeat self.old.marks → NoRepeat self.new.marks }
         ensures work { IsWork self.new }
     {
         let alloc = *self.marks.allocator();
@@ -166,10 +170,9 @@ impl Work {
     /// A copy of the patch.
     pub fn patch(&self, alloc: Global) -> Result<Patch, AllocError>
         ensures patch { IfOk result (λ patch. patch ≡ self.now.patch) }
-        ensures texts { OnOk result (All (λ operation. IsText operation.insert) self.now.patch.ops) }
         ensures work { IsWork self.now }
     {
-        copy_of(alloc, &self.patch)
+        self.patch.copy(alloc)
     }
 
     /// A copy of the work.
@@ -178,7 +181,7 @@ impl Work {
         ensures work { IsWork self.now }
     {
         Ok(Work {
-            patch: copy_of(alloc, &self.patch)?,
+            patch: self.patch.copy(alloc)?,
             marks: self.marks.as_slice().to_vec(alloc)?,
         })
     }
@@ -197,6 +200,46 @@ impl Work {
         ensures work { IsWork self.now }
     {
         self.marks.contains(&mark)
+    }
+
+    /// Moves the work to a text with another document hash; all else stays. The work removes nothing of its text.
+    pub fn move_to(&mut self, before: Name)
+        requires { All (λ operation. operation.remove ≡ 0) self.old.patch.ops }
+        ensures moved { self.new ≡ moved_to self.old before }
+        ensures applies { CanApply self.old.patch [] → (text : List ℕ) → CanApply self.new.patch text }
+        ensures work { IsWork self.new }
+    {
+        self.patch.before = before;
+    }
+
+    /// Lends the marks, in the order of the units that the work inserts.
+    pub fn marks(&self) -> &[Mark]
+        ensures marks { result.now ≡ self.now.marks }
+        ensures work { IsWork self.now }
+    {
+        let _ = &self.patch;
+        self.marks.as_slice()
+    }
+
+    /// The mark of the unit at an index among all that the work inserts.
+    pub fn mark_at(&self, index: u64) -> Mark
+        requires { index < length (inserted self.now.patch) }
+        ensures mark { slice_get self.now.marks index ≡ Some result }
+        ensures work { IsWork self.now }
+    {
+        self.marks[index as usize]
+    }
+
+    /// Whether no mark of the work has this stroke: what `edit` asks.
+    pub fn is_new_stroke(&self, stroke: u64) -> bool
+        ensures new { IsTrue result ↔ All (λ mark. mark.stroke ≢ stroke) self.now.marks }
+        ensures work { IsWork self.now }
+    {
+        let _ = &self.patch;
+        self.marks
+            .as_slice()
+            .iter()
+            .all(|mark| mark.stroke != stroke)
     }
 
     /// The text with the work applied.
@@ -226,9 +269,10 @@ impl Work {
         ensures applies { IfOk result (λ work. (text : List ℕ) → length text ≡ len → CanApply self.now.patch text
             → CanApply (typed self.now op stroke).patch (text_after self.now.patch text) → CanApply work.patch text) }
         ensures before { IfOk result (λ work. work.patch.before ≡ self.now.patch.before) }
+        ensures different { IfOk result (λ work. NoRepeat self.now.marks → NoRepeat work.marks) }
         ensures work { IfOk result (λ work. IsWork work) }
     {
-        let marks = marks_typed(alloc, stroke, op.insert.len())?;
+        let marks = marks_typed(alloc, stroke, op.insert.as_units().len())?;
         let mut ops = Vec::new(alloc);
         ops.push(op)?;
         let typed = Patch {
@@ -249,14 +293,15 @@ impl Work {
         requires small { len < 2 ^ 32 }
         requires can { CanMerge self.now.patch patch.now len }
         requires counted { length marks.now ≡ length (inserted patch.now) }
-        requires different { NoRepeat marks.now }
-        requires apart { NoneInBoth self.now.marks marks.now }
+        requires texts { All (λ operation. IsText operation.insert) patch.now.ops }
         ensures in_turn { IfOk result (λ work. work ≡ in_turn self.now (record { patch = patch.now; marks = marks.now }) len) }
         ensures both { IfOk result (λ work. (text : List ℕ) → length text ≡ len
             → text_after work.patch text ≡ text_after patch.now (text_after self.now.patch text)) }
         ensures applies { IfOk result (λ work. (text : List ℕ) → length text ≡ len → CanApply self.now.patch text
             → CanApply patch.now (text_after self.now.patch text) → CanApply work.patch text) }
         ensures before { IfOk result (λ work. work.patch.before ≡ self.now.patch.before) }
+        ensures different { IfOk result (λ work. NoRepeat self.now.marks → NoRepeat marks.now → NoneInBoth self.now.marks marks.now
+            → NoRepeat work.marks) }
         ensures work { IfOk result (λ work. IsWork work) }
     {
         one_origin_each();
@@ -270,34 +315,6 @@ impl Work {
             marks,
         })
     }
-}
-
-/// A copy of a patch.
-fn copy_of(alloc: Global, patch: &Patch) -> Result<Patch, AllocError>
-    ensures copy { IfOk result (λ copy. copy ≡ patch.now) }
-    ensures texts { OnOk result (All (λ operation. IsText operation.insert) patch.now.ops) }
-{
-    let mut ops = Vec::new(alloc);
-    for op in patch.ops.as_slice() {
-        ops.push(copy_of_operation(alloc, op)?)?;
-    }
-    Ok(Patch {
-        ops: Operations::new(ops),
-        before: patch.before,
-    })
-}
-
-/// A copy of an operation.
-fn copy_of_operation(alloc: Global, op: &Operation) -> Result<Operation, AllocError>
-    ensures copy { IfOk result (λ copy. copy ≡ op.now) }
-    ensures text { IsText op.now.insert }
-{
-    let units = op.insert.as_units().to_vec(alloc)?;
-    Ok(Operation {
-        offset: op.offset,
-        remove: op.remove,
-        insert: Text::from_units(units),
-    })
 }
 
 #[cfg(test)]

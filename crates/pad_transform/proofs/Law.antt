@@ -1,6 +1,6 @@
 -- A transformed patch fits the changed text, and takes nothing of the other one's.
-use Rattle.std.proofs.Common.{◌≡◌, ℕ, zero, suc, ◌<◌, inl, inr, List, [], ◌∷◌, length, All, refl, sym, ◌∙◌, ap, subst, arith}
-use Rattle.std.specs.Prelude.{Some, slice_get}
+use Rattle.std.proofs.Common.{◌≡◌, ℕ, zero, suc, ◌<◌, inl, inr, List, [], ◌∷◌, length, All, get_or, refl, sym, ◌∙◌, ap, subst, arith}
+use Rattle.std.specs.Prelude.{Some, None, slice_get}
 use Rattle.std.proofs.lemmas.List.Elements.{All-head, All-tail}
 use Rattle.pad_text.specs.Text.{IsText}
 use Rattle.pad_text.specs.Hash.{document_hash}
@@ -9,15 +9,16 @@ use Rattle.pad_patch.specs.declared.patch.Patch.{Patch}
 use Rattle.pad_patch.specs.declared.misfit.Misfit.TheVariants.{Order, Range, Pair, TooLong, BeforeHash}
 use Rattle.pad_patch.specs.Piece.{end_of, text_after, inserted}
 use Rattle.pad_patch.specs.Misfit.{CanApply}
+use Rattle.pad_patch.specs.Removed.{old_places}
 use Rattle.pad_patch.specs.UnitStore.{IsRange}
-use Rattle.pad_patch.proofs.Laid.{IsLaid, laid}
-use Rattle.pad_patch.proofs.Copies.{Whole, InsertsTexts}
+use Rattle.pad_patch.proofs.CallerLemmas.{IsLaid, laid, text_after-copy}
+use Rattle.pad_patch.proofs.CallerLemmas.{Whole, InsertsTexts}
 use Rattle.pad_transform.specs.Table.{transformed_all}
 use Rattle.pad_transform.specs.Carried.{BothApply, FitsButLength, RemovesOnlyKept}
 use Rattle.pad_transform.proofs.Cases.{joined-through, joined}
 use Rattle.pad_transform.proofs.Order.{IsImage, image_of, ordered-through}
 use Rattle.pad_transform.proofs.Ranges.{AreNext-laid, IsRange-through}
-use Rattle.pad_transform.proofs.OldPlaces.{kept-through}
+use Rattle.pad_transform.proofs.OldPlaces.{kept-through, old_places-pieces, get_of}
 
 -- each insertion of a list of operations is a text
 abbrev pub AllTexts : List Operation → Type 0
@@ -58,13 +59,13 @@ module _ (moved patch by : Patch) (is : moved.ops ≡ transformed_all patch by) 
 
   range_after : (text : List ℕ) (index : ℕ) (c : Operation) → AllTexts by.ops → BothApply patch by text → slice_get moved.ops index ≡ Some c
       → IsRange (text_after by text) c.offset (end_of c)
-  unfolding text_after
   range_after text index c texts both stands =
       let found = found_of index c stands in
       let others = both.other_applies in
-      IsRange-through text by.ops found.first c both.is_text
+      subst (λ us. IsRange us c.offset (end_of c)) (sym (text_after-copy by text))
+      (IsRange-through text by.ops found.first c both.is_text
       (AreNext-laid text 0 by.ops (laid_of by text others) (whole_of by text others) (inserts_of by.ops texts))
-      (range_of patch text found.index found.first both.patch_applies found.stands) found.image
+      (range_of patch text found.index found.first both.patch_applies found.stands) found.image)
 
   pub CanApply-moved : (text : List ℕ) → (0 < length moved.ops → AllTexts by.ops) → BothApply patch by text → CanApply moved (text_after by text)
   CanApply-moved text texts both =
@@ -84,7 +85,8 @@ module _ (moved patch by : Patch) (is : moved.ops ≡ transformed_all patch by) 
       let found = found_of index c stands in
       let range = range_of patch text found.index found.first both.patch_applies found.stands in
       let kept = kept-through by.ops 0 (length text) found.first c (laid_of by text both.other_applies) range.inside found.image place first last in
-      (kept.old, kept.stood, (found.index, found.first, found.stands, kept.from, kept.below))
+      let there = ap (λ xs. get_or xs place None) (old_places-pieces by (length text) (laid_of by text both.other_applies)) ∙ kept.stood in
+      (kept.old, get_of (old_places by (length text)) place kept.old there, (found.index, found.first, found.stands, kept.from, kept.below))
 
 -- a patch that can be applied and has the hash of the text fits it but for its length
 pub FitsButLength-applies : (patch : Patch) (text : List ℕ) → CanApply patch text → patch.before ≡ document_hash text → FitsButLength patch text

@@ -5,3 +5,5 @@ pub mod Ranges
 pub mod OldPlaces
 pub mod Law
 pub mod Units
+pub mod Room
+pub mod CallerLemmas

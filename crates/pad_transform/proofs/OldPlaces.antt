@@ -1,17 +1,23 @@
 -- Where the units stood that an operation removes after others.
-use Rattle.std.proofs.Common.{◌≡◌, ℕ, zero, suc, ◌+◌, ◌-◌, ◌<◌, ◌≤◌, List, [], ◌∷◌, ◌++◌, map, length, get_or, refl, sym, ◌∙◌, ap, subst, arith, append_assoc}
-use Rattle.std.specs.Prelude.{Option, Some, None}
+use Rattle.std.proofs.Common.{◌≡◌, ℕ, zero, suc, ◌+◌, ◌-◌, ◌<◌, ◌≤◌, List, [], ◌∷◌, ◌++◌, map, length, take, drop, replicate, get_or, refl, sym, ◌∙◌, ap, subst, arith, append_assoc}
+use Rattle.std.specs.Prelude.{Option, Some, None, slice_get}
 use Rattle.std.specs.List.{flat_map, range_with_len}
-use Rattle.std.proofs.lemmas.List.{get_or-append-add, get_or_append_left, length-map, append-nil}
-use Rattle.std.proofs.lemmas.List.FromFn.{length-map-range_with_len, get_or-map-range_with_len}
+use Rattle.std.proofs.lemmas.List.{get_or-append-add, get_or_append_left, length-map, length-append, append-nil, take_at, drop_at, length-replicate, replicate-append-replicate}
+use Rattle.std.proofs.lemmas.List.FromFn.{length-range_with_len, length-map-range_with_len, get_or-map-range_with_len}
 use Rattle.pad_patch.specs.declared.operation.Operation.{Operation}
-use Rattle.pad_patch.specs.Piece.{end_of, pieces_from}
-use Rattle.pad_patch.proofs.Laid.{IsLaid, IsLaid-before}
+use Rattle.pad_patch.specs.Piece.{Piece, keep, new_units, end_of, pieces, pieces_from, patched_pieces, insertions, inserted}
+use Rattle.pad_patch.specs.declared.patch.Patch.{Patch}
+use Rattle.pad_patch.specs.Removed.{old_places}
+use Rattle.pad_patch.proofs.CallerLemmas.{IsLaid, IsLaid-before, patched-next, part, map-take, map-drop, range-append, replicate-map}
 use Rattle.pad_transform.specs.Table.{through}
-use Rattle.pad_transform.specs.Carried.{old_places_of_piece}
 use Rattle.pad_transform.proofs.Cases.{Moved, behind, within, before, across, last_step}
 
--- the old_places of the rest of the copy, from a place of the text on
+-- where the units of a piece stood before: each kept unit at its place, a new one nowhere
+abbrev old_places_of_piece : Piece → List (Option ℕ)
+old_places_of_piece (keep from count) = map Some (range_with_len from count)
+old_places_of_piece (new_units units) = map (λ _. None) units
+
+-- the old places of the rest of the copy, from a place of the text on
 abbrev pub old_places_from : ℕ → ℕ → List Operation → List (Option ℕ)
 old_places_from place size operations = flat_map old_places_of_piece (pieces_from place size operations)
 
@@ -121,3 +127,51 @@ kept-through [] place size a c laid_out inside is i first last =
 kept-through (b ∷ later) place size a c laid_out inside is i first last =
     let step = last_step a b later c is in
     kept_step a step.earlier b c later size laid_out.2 step.line (kept-through later (end_of b) size a step.earlier laid_out.2 inside step.image) i first last
+
+-- a part of the numbers below a size
+part_range : (low high size : ℕ) → low ≤ high → high ≤ size → part low high (range_with_len 0 size) ≡ range_with_len low (high - low)
+part_range low high size order most =
+    let rest : size ≡ low + ((high - low) + (size - high)) = omega arith in
+    let middle : low + (high - low) ≡ high = omega arith in
+    let here : 0 + low ≡ low = omega arith in
+    let later = range_with_len high (size - high) in
+    ap (λ n. part low high (range_with_len 0 n)) rest
+    ∙ ap (part low high) (sym (range-append 0 low ((high - low) + (size - high)))
+    ∙ ap (λ n. range_with_len 0 low ++ range_with_len n ((high - low) + (size - high))) here
+    ∙ ap (λ xs. range_with_len 0 low ++ xs) (sym (range-append low (high - low) (size - high)) ∙ ap (λ n. range_with_len low (high - low) ++ range_with_len n (size - high)) middle))
+    ∙ ap (take (high - low)) (drop_at (range_with_len 0 low) (range_with_len low (high - low) ++ later) low (length-range_with_len 0 low))
+    ∙ take_at (range_with_len low (high - low)) later (high - low) (length-range_with_len low (high - low))
+
+part_places : (low high size : ℕ) → low ≤ high → high ≤ size → part low high (map Some (range_with_len 0 size)) ≡ places low high
+part_places low high size order most =
+    ap (take (high - low)) (sym (map-drop Some low (range_with_len 0 size))) ∙ sym (map-take Some (high - low) (drop low (range_with_len 0 size)))
+    ∙ ap (map Some) (part_range low high size order most)
+
+old_pieces : (place size : ℕ) (operations : List Operation) → IsLaid place size operations
+    → patched_pieces (map Some (range_with_len 0 size)) (replicate (length (insertions operations)) None) (pieces_from place size operations) ≡ old_places_from place size operations
+old_pieces place size [] laid_out = ap (λ xs. xs ++ []) (part_places place size size laid_out (omega arith))
+old_pieces place size (operation ∷ operations) (starts, inside, rest) =
+    let old : List (Option ℕ) = map Some (range_with_len 0 size) in
+    let count = length operation.insert in
+    let left = length (insertions operations) in
+    let first : List (Option ℕ) = replicate count None in
+    let second : List (Option ℕ) = replicate left None in
+    let later = pieces_from place size (operation ∷ operations) in
+    ap (λ n. patched_pieces old (replicate n None) later) (length-append operation.insert (insertions operations))
+    ∙ ap (λ xs. patched_pieces old xs later) (sym (replicate-append-replicate count left None))
+    ∙ patched-next old first second place size operation operations (length-replicate count None)
+    ∙ ap (λ xs. xs ++ (first ++ patched_pieces old second (pieces_from (end_of operation) size operations))) (part_places place operation.offset size starts (omega (arith, inside)))
+    ∙ ap (λ xs. places place operation.offset ++ (xs ++ patched_pieces old second (pieces_from (end_of operation) size operations))) (sym (replicate-map None operation.insert))
+    ∙ ap (λ xs. places place operation.offset ++ (map (λ _. None) operation.insert ++ xs)) (old_pieces (end_of operation) size operations rest)
+
+-- the old places after a patch, piece by piece
+pub old_places-pieces : (patch : Patch) (size : ℕ) → IsLaid 0 size patch.ops → old_places patch size ≡ old_places_from 0 size patch.ops
+old_places-pieces patch size laid_out =
+    ap (λ n. patched_pieces (map Some (range_with_len 0 size)) (replicate (length (inserted patch)) None) (pieces patch n)) (length-map-range_with_len {X = Option ℕ} Some 0 size)
+    ∙ old_pieces 0 size patch.ops laid_out
+
+-- what stands at an index, as an option
+pub get_of : (xs : List (Option ℕ)) (place old : ℕ) → get_or xs place None ≡ Some old → slice_get xs place ≡ Some (Some old)
+get_of [] place old is = cc
+get_of (x ∷ xs) zero old is = ap Some is
+get_of (x ∷ xs) (suc place) old is = get_of xs place old is

@@ -9,8 +9,8 @@ use Rattle.pad_text.proofs.Texts.{IsText-append, IsText-take, IsText-drop, IsTex
 use Rattle.pad_patch.specs.declared.operation.Operation.{Operation}
 use Rattle.pad_patch.specs.Piece.{end_of}
 use Rattle.pad_patch.specs.UnitStore.{IsRange, replaced}
-use Rattle.pad_patch.proofs.Laid.{IsLaid}
-use Rattle.pad_patch.proofs.Copies.{copy_from, copy_from-none, copy_from-replaced, IsRange-copy_from, IsNext, Whole, InsertsTexts}
+use Rattle.pad_patch.proofs.CallerLemmas.{IsLaid}
+use Rattle.pad_patch.proofs.CallerLemmas.{copy_from, copy_from-none, copy_from-replaced, IsRange-copy_from, IsNext, Whole, InsertsTexts}
 use Rattle.pad_transform.specs.Table.{through}
 use Rattle.pad_transform.proofs.Cases.{Moved, behind, within, before, across, last_step}
 

@@ -4,6 +4,7 @@ use Rattle.std.specs.List.{filter_map}
 use Rattle.std.specs.Option.{option_and_then}
 use Rattle.pad_patch.specs.declared.operation.Operation.{Operation}
 use Rattle.pad_patch.specs.declared.patch.Patch.{Patch}
+use Rattle.pad_patch.specs.Operation.{is_noop}
 use Rattle.pad_patch.specs.Piece.{end_of}
 
 -- an operation by another one: the first case that applies counts
@@ -18,17 +19,13 @@ adjusted operation by =
     -- it starts before the other or where the other does: it removes up to that start
     else record operation { remove = by.offset - operation.offset }))
 
--- it removes nothing and inserts nothing
-abbrev pub IsEmpty : Operation → Type 0
-IsEmpty operation = (operation.remove ≡ 0) × (operation.insert ≡ [])
+-- the operation, and none if it removes and inserts nothing
+abbrev pub unless_noop : Operation → Option Operation
+unless_noop operation = if is_noop operation then None else Some operation
 
--- the operation, and none where it is empty
-abbrev pub unless_empty : Operation → Option Operation
-unless_empty operation = if (operation.remove == 0) && (length operation.insert == 0) then None else Some operation
-
--- an operation by another one, and none where it is empty then
+-- an operation by another one, and none if it then removes and inserts nothing
 abbrev pub transformed : Operation → Operation → Option Operation
-transformed operation by = unless_empty (adjusted operation by)
+transformed operation by = unless_noop (adjusted operation by)
 
 -- an operation by each of these operations, from the last to the first
 abbrev pub through : List Operation → Operation → Option Operation

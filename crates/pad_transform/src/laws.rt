@@ -1,9 +1,14 @@
 //! Laws over the definitions, each proved once.
-ghost use Rattle.pad_transform.specs.Laws.{SumsFitWithRoom, InsertionsStay, OnlyEmptyIsDropped, KeptUnitsStay};
+ghost use Rattle.pad_transform.specs.Laws.{SumsFitWithRoom, SumsFitWithin, InsertionsStay, OnlyEmptyIsDropped, KeptUnitsStay};
 
 /// Each sum fits where there is room behind each operation's start for all that the other patch inserts.
 pub fn sums_fit_with_room()
     ensures { SumsFitWithRoom }
+{}
+
+/// Each sum fits if both patches can be applied to a text whose length, with its length after the other patch, is less than 2^32.
+pub fn sums_fit_within()
+    ensures { SumsFitWithin }
 {}
 
 /// The insertion of an operation never changes.

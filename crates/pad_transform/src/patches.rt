@@ -37,24 +37,13 @@ pub fn transform(
 {
     let mut ops = Vec::new(alloc);
     for op in patch.ops.as_slice() {
-        if let Some(moved) = moved_through(copy_of(alloc, op)?, by.ops.as_slice()) {
+        if let Some(moved) = moved_through(op.copy(alloc)?, by.ops.as_slice()) {
             ops.push(moved)?;
         }
     }
     Ok(Patch {
         ops: Operations::new(ops),
         before: *after,
-    })
-}
-
-/// Another operation like this one.
-fn copy_of(alloc: Global, op: &Operation) -> Result<Operation, AllocError>
-    ensures { IfOk result (λ copy. copy ≡ op.now) }
-{
-    Ok(Operation {
-        offset: op.offset,
-        remove: op.remove,
-        insert: op.insert.copy(alloc)?,
     })
 }
 

@@ -1,15 +1,16 @@
-ghost use Rattle.std.specs.Prelude.{◌≡◌, ◌↔◌, IsNone};
+ghost use Rattle.std.specs.Prelude.{◌≡◌, ◌↔◌, IsNone, IsTrue};
 ghost use Rattle.pad_text.specs.Text.{IsText};
-ghost use Rattle.pad_transform.specs.Table.{adjusted, transformed, IsEmpty, SumsFit};
+ghost use Rattle.pad_patch.specs.Operation.{is_noop};
+ghost use Rattle.pad_transform.specs.Table.{adjusted, transformed, SumsFit};
 
 use pad_patch::Operation;
 
-/// The operation on a text that the other one changed first, and none where it then removes and inserts nothing.
+/// The operation on a text that the other one changed first, and none if it then removes and inserts nothing.
 /// Its insertion moves, and no memory is taken.
 pub fn transform_op(operation: Operation, by: &Operation) -> Option<Operation>
     requires sums { SumsFit operation by.now }
     ensures table { result ≡ transformed operation by.now }
-    ensures none { IsNone result ↔ IsEmpty (adjusted operation by.now) }
+    ensures none { IsNone result ↔ IsTrue (is_noop (adjusted operation by.now)) }
     ensures by_text { IsText by.now.insert }
 {
     let inserted = by.insert.as_units().len();
@@ -24,12 +25,13 @@ pub fn transform_op(operation: Operation, by: &Operation) -> Option<Operation>
     } else {
         (operation.start(), by.start() - operation.start())
     };
-    if remove == 0 && operation.insert.len() == 0 {
-        return None;
-    }
-    Some(Operation {
+    let moved = Operation {
         offset: start as u32,
         remove: remove as u32,
         insert: operation.insert,
-    })
+    };
+    if moved.is_noop() {
+        return None;
+    }
+    Some(moved)
 }

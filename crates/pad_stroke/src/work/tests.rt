@@ -1,11 +1,10 @@
 //! Rows of values that were worked out by hand.
-ghost use Rattle.std.specs.Prelude.{◌≡◌, ◌≢◌, ◌^◌, ◌<◌, length, IsTrue, IfSome, All, Contains};
+ghost use Rattle.std.specs.Prelude.{◌≡◌, ◌^◌, ◌<◌, length, IsTrue, IfSome, All};
 ghost use Rattle.pad_text.specs.Hash.{document_hash};
 ghost use Rattle.pad_patch.specs.Piece.{inserted};
 ghost use Rattle.pad_patch.specs.declared.misfit.Misfit.TheVariants.{TooLong};
 ghost use Rattle.pad_patch.specs.Misfit.{CanApply};
 ghost use Rattle.pad_transform.specs.Table.{transformed_all, SumsFitThrough};
-ghost use Rattle.pad_stroke.specs.Mark.{NoneInBoth};
 ghost use Rattle.pad_stroke.specs.Through.{joined};
 
 use super::*;
@@ -43,16 +42,6 @@ fn row_of(alloc: Global, work: &Work) -> Result<String, AllocError> {
         row.push_str(part.as_str())?;
     }
     Ok(row)
-}
-
-/// Whether no mark of a work has this stroke.
-fn is_new(work: &Work, stroke: u64) -> bool
-    ensures { IsTrue result → All (λ mark. mark.stroke ≢ stroke) work.now.marks }
-{
-    work.marks
-        .as_slice()
-        .iter()
-        .all(|mark| mark.stroke != stroke)
 }
 
 /// The word for how an edit went.
@@ -101,7 +90,7 @@ fn edit<S: UnitStore>(
     if work.patch.before == *hash
         && text.length() < 1_000_000
         && can_apply(&work.patch, text, hash)
-        && is_new(work, stroke)
+        && work.is_new_stroke(stroke)
     {
         return word_of(work.edit(alloc, text, op, stroke));
     }
@@ -141,6 +130,38 @@ fn edits_are_merged_with_their_marks(rt: HostRuntime) -> Result<(), Fail> {
     // What is taken out again leaves no mark, and an edit of nothing changes nothing.
     let rows = [(3, 0, "xy"), (4, 0, "z"), (3, 2, ""), (0, 0, "")];
     assert_eq!(rt; told(alloc, "abc", &rows)?.as_str(), "[3,0,y](1,1)");
+    Ok(())
+}
+
+#[test]
+fn edits_are_merged_with_pairs_between_them(rt: HostRuntime) -> Result<(), Fail> {
+    let alloc = rt.alloc();
+    // The edits of a work on "ab", and the work.
+    let table: [(&[Row], &str); 5] = [
+        (
+            &[(1, 0, "\u{1F600}x"), (3, 0, "y")],
+            "[1,0,\u{1F600}yx](1,0)(1,1)(2,0)(1,2)",
+        ),
+        (
+            &[(1, 0, "\u{1F600}x"), (3, 0, "y"), (1, 2, "")],
+            "[1,0,yx](2,0)(1,2)",
+        ),
+        (
+            &[(1, 0, "x\u{1F600}"), (2, 0, "\u{1F601}")],
+            "[1,0,x\u{1F601}\u{1F600}](1,0)(2,0)(2,1)(1,1)(1,2)",
+        ),
+        (
+            &[(0, 1, "\u{1F600}\u{1F601}"), (2, 3, "z")],
+            "[0,2,\u{1F600}z](1,0)(1,1)(2,0)",
+        ),
+        (
+            &[(1, 0, "\u{1F600}"), (0, 0, "p"), (4, 0, "q"), (2, 2, "")],
+            "[0,0,p][1,0,q](2,0)(3,0)",
+        ),
+    ];
+    for (rows, wanted) in table {
+        assert_eq!(rt; told(alloc, "ab", rows)?.as_str(), wanted);
+    }
     Ok(())
 }
 
@@ -280,7 +301,6 @@ fn a_work_is_stripped_of_another(rt: HostRuntime) -> Result<(), Fail> {
 fn without_sent(alloc: Global, mut work: Work) -> Result<Work, AllocError> {
     pairs_stay_whole();
     let sent = work.copy(alloc)?;
-    let _patch = work.patch(alloc)?;
     work.strip(&sent);
     Ok(work)
 }
@@ -295,24 +315,6 @@ fn sent_work_is_stripped_with_its_pairs(rt: HostRuntime) -> Result<(), Fail> {
     Ok(())
 }
 
-/// Whether no mark stands in both works.
-fn are_apart(first: &Work, second: &Work) -> bool
-    ensures { IsTrue result → NoneInBoth first.now.marks second.now.marks }
-{
-    none_stands(first, second)
-}
-
-/// Whether none of the marks of a work stands in the other one.
-fn none_stands(first: &Work, second: &Work) -> bool
-    ensures { IsTrue result → All (λ mark. ¬ (Contains second.now.marks mark)) first.now.marks }
-{
-    first
-        .marks
-        .as_slice()
-        .iter()
-        .all(|mark| !second.holds(*mark))
-}
-
 /// Takes back a work on this text, where the conditions hold, and tells whether they do.
 fn take_back<S: UnitStore>(
     alloc: Global,
@@ -324,7 +326,7 @@ fn take_back<S: UnitStore>(
     let hash = text.hash(alloc)?;
     let size = text.length();
     let applies = of.patch.fits(text, &hash).is_ok();
-    if !applies || 1000 < size || !are_apart(of, work) {
+    if !applies || 1000 < size {
         return Ok(false);
     }
     let after = of.patch.apply(alloc, text)?;
@@ -388,6 +390,79 @@ fn work_is_taken_back_and_carried(rt: HostRuntime) -> Result<(), Fail> {
         assert!(rt; through(alloc, &mut work, row, &Name::BASE)?);
     }
     assert_eq!(rt; row_of(alloc, &work)?.as_str(), "[0,0,hoi](1,0)(2,0)(1,1)");
+    Ok(())
+}
+
+#[test]
+fn work_with_equal_marks_is_taken_back_as_it_is(rt: HostRuntime) -> Result<(), Fail> {
+    let alloc = rt.alloc();
+    // Both works were typed by strokes 1 and 2, so marks stand in both.
+    let text = store_of(alloc, "")?;
+    let (_, sent) = edited(alloc, &text, &[(0, 0, "\u{1F600}"), (2, 0, "x")])?;
+    let after = store_of(alloc, "\u{1F600}x")?;
+    let (_, mut work) = edited(alloc, &after, &[(0, 0, "a"), (3, 1, "\u{1F601}")])?;
+    assert!(rt; take_back(alloc, &mut work, &sent, &text)?);
+    assert_eq!(rt;
+        row_of(alloc, &work)?.as_str(),
+        "[0,0,a\u{1F600}\u{1F601}](1,0)(1,0)(1,1)(2,0)(2,1)"
+    );
+    Ok(())
+}
+
+/// Whether no operation removes anything.
+fn removes_nothing(patch: &Patch) -> bool
+    ensures { IsTrue result → All (λ operation. operation.remove ≡ 0) patch.now.ops }
+{
+    patch.ops.as_slice().iter().all(|op| op.remove == 0)
+}
+
+/// The work moved to a text with another document hash, if it removes nothing.
+fn moved(mut work: Work, before: Name) -> Work {
+    if removes_nothing(&work.patch) {
+        work.move_to(before);
+    }
+    work
+}
+
+#[test]
+fn work_is_moved_to_another_text(rt: HostRuntime) -> Result<(), Fail> {
+    let alloc = rt.alloc();
+    let (_, work) = edited(alloc, &store_of(alloc, "")?, &[(0, 0, "h\u{1F600}")])?;
+    let hash = store_of(alloc, "abc")?.hash(alloc)?;
+    let work = moved(work, hash);
+    assert!(rt; work.patch(alloc)?.before == hash);
+    assert_eq!(rt;
+        row_of(alloc, &work)?.as_str(),
+        "[0,0,h\u{1F600}](1,0)(1,1)(1,2)"
+    );
+    Ok(())
+}
+
+#[test]
+fn a_work_tells_its_marks(rt: HostRuntime) -> Result<(), Fail> {
+    let alloc = rt.alloc();
+    let rows = [(1, 0, "xyz"), (2, 0, "p")];
+    let (_, work) = edited(alloc, &store_of(alloc, "abc")?, &rows)?;
+    let marks = work.marks();
+    assert_eq!(rt; marks.len(), 4);
+    if 3 < marks.len() {
+        assert_eq!(rt;
+            work.mark_at(1),
+            Mark {
+                stroke: 2,
+                index: 0
+            }
+        );
+        assert_eq!(rt;
+            work.mark_at(3),
+            Mark {
+                stroke: 1,
+                index: 2
+            }
+        );
+    }
+    assert!(rt; work.is_new_stroke(3));
+    assert!(rt; !work.is_new_stroke(2));
     Ok(())
 }
 

@@ -4,20 +4,21 @@ use Rattle.std.specs.List.{flat_map}
 use Rattle.std.proofs.lemmas.List.{drop_all, length-map}
 use Rattle.std.proofs.lemmas.Option.{slice_get-get_or}
 use Rattle.pad_patch.specs.Piece.{pieces_from}
-use Rattle.pad_patch.proofs.Laid.{IsLaid, laid}
-use Rattle.pad_patch.proofs.Inverses.{texts_next}
-use Rattle.pad_merge.specs.Source.{new_unit, sources_of_piece, sources_after}
-use Rattle.pad_merge.specs.Origin.{numbered, origins_of_pieces, origins_after}
+use Rattle.pad_patch.proofs.CallerLemmas.{IsLaid, laid}
+use Rattle.pad_patch.proofs.CallerLemmas.{texts_next}
+use Rattle.pad_merge.specs.Source.{new_unit, sources_after}
+use Rattle.pad_merge.specs.Origin.{numbered, origins_after}
+use Rattle.pad_merge.proofs.Numbers.{origins_of_pieces, origins-pieces}
 use Rattle.pad_merge.specs.CopiedUnit.{source_of, origin_of, origin_in}
-use Rattle.pad_merge.proofs.Sources.{drop-next, copied_next}
+use Rattle.pad_merge.proofs.Sources.{sources_of_piece, sources-pieces, drop-next, copied_next}
 use Rattle.pad_merge.proofs.Units.{grown_range, grown_length, numbered_operation, copied_end}
 use Rattle.pad_merge.proofs.merging.copied.Goals as goal
 
 pub loop-op-init : goal.loop-op-init
 loop-op-init c =
     rw (c.new-copy.ensures.items, c.as_slice-op-items.ensures) (record {
-      sources = refl;
-      origins = refl;
+      sources = sym (sources-pieces c.args.patch.now (map source_of c.args.units.now));
+      origins = sym (origins-pieces (origin_in c.args.turn) c.args.patch.now (map origin_of c.args.units.now));
       laid_out = laid c.args.patch.now (length c.args.units.now) c.requires.ordered c.requires.inside;
       texts = λ index operation below. absurd (omega arith);
       few = omega arith;

@@ -5,11 +5,13 @@ use Rattle.std.specs.List.{flat_map}
 use Rattle.pad_text.specs.Text.{IsText}
 use Rattle.pad_patch.specs.declared.operation.Operation.{Operation}
 use Rattle.pad_patch.specs.Piece.{pieces_from}
-use Rattle.pad_patch.proofs.Laid.{IsLaid}
-use Rattle.pad_merge.specs.Source.{sources_of_piece, sources_after}
-use Rattle.pad_merge.specs.Origin.{origins_of_pieces, origins_after}
+use Rattle.pad_patch.proofs.CallerLemmas.{IsLaid}
+use Rattle.pad_merge.specs.Source.{sources_after}
+use Rattle.pad_merge.specs.Origin.{origins_after}
+use Rattle.pad_merge.proofs.Numbers.{origins_of_pieces}
 use Rattle.pad_merge.specs.CopiedUnit.{source_of, origin_of, origin_in}
 use Rattle.pad_merge.proofs.merging.copied.Given as goal
+use Rattle.pad_merge.proofs.Sources.{sources_of_piece}
 
 abbrev pub invariant-loop-op : goal.invariant-loop-op
 invariant-loop-op l =

@@ -4,7 +4,8 @@ use Rattle.std.proofs.lemmas.List.{take_more_set, drop-set-lt, length-drop, leng
 use Rattle.std.proofs.lemmas.List.Elements.{All-head, All-tail}
 use Rattle.pad_text.specs.Text.{IsText}
 use Rattle.pad_patch.specs.declared.operation.Operation.{Operation}
-use Rattle.pad_stroke.specs.Strip.{insertions, staying, thinned}
+use Rattle.pad_patch.specs.Piece.{insertions}
+use Rattle.pad_stroke.specs.Strip.{staying, thinned}
 use Rattle.pad_stroke.proofs.Stripped.{next_of}
 use Rattle.pad_stroke.proofs.stripping.thin.Goals as goal
 

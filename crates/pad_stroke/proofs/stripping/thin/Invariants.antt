@@ -2,7 +2,8 @@
 use Rattle.std.proofs.Common.{◌≡◌, ◌≤◌, ◌++◌, take, drop, length}
 use Rattle.std.specs.List.{All}
 use Rattle.pad_text.specs.Text.{IsText}
-use Rattle.pad_stroke.specs.Strip.{insertions, thinned}
+use Rattle.pad_patch.specs.Piece.{insertions}
+use Rattle.pad_stroke.specs.Strip.{thinned}
 use Rattle.pad_stroke.proofs.stripping.thin.Given as goal
 
 abbrev pub invariant-loop-op : goal.invariant-loop-op

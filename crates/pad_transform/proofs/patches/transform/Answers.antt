@@ -16,7 +16,7 @@ loop-op-preserved c =
     c.op-item.is ∙ ap (λ xs. slice_index_or xs c.loop-op.op-index c.op-item.result) c.as_slice-op-items.ensures in
     let below : c.loop-op.op-index < length c.args.patch.now.ops = subst (λ xs. c.loop-op.op-index < length xs) c.as_slice-op-items.ensures c.loop-op-test.true in
     let image : through c.args.by.now.ops c.op-item.result ≡ c.moved_through.result =
-    sym (c.moved_through.ensures.moved ∙ ap (λ xs. through xs c.in_ok-copy_of.field-0) c.as_slice.ensures ∙ ap (through c.args.by.now.ops) c.in_ok-copy_of.ensures) in
+    sym (c.moved_through.ensures.moved ∙ ap (λ xs. through xs c.in_ok-copy.field-0) c.as_slice.ensures ∙ ap (through c.args.by.now.ops) c.in_ok-copy.ensures.copy) in
     elim c.match-moved_through.branch [
       | in-Some+in_ok-push w ↦
           let pushed : c.match-moved_through.ops.items ≡ w.push.new.self.items = ap (λ v. v.items) w.ops-is in

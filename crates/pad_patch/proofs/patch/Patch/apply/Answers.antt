@@ -1,8 +1,7 @@
 use Rattle.std.proofs.Common.{◌≡◌, ◌∷◌, sym, ◌∙◌, ap, arith, drop, length}
 use Rattle.std.proofs.lemmas.List.{drop_all}
-use Rattle.pad_patch.specs.Piece.{text_after}
 use Rattle.pad_patch.specs.UnitStore.{replaced}
-use Rattle.pad_patch.proofs.Copies.{copy_from, copy_from-none, copy_from-replaced, IsRange-copy_from, turn}
+use Rattle.pad_patch.proofs.Copies.{copy_from, text_after-copy, copy_from-none, copy_from-replaced, IsRange-copy_from, turn}
 use Rattle.pad_patch.proofs.patch.Patch.apply.Goals as goal
 
 pub replace-requires : goal.replace-requires
@@ -32,9 +31,8 @@ loop-index-init g c =
     c.in_ok-after.ensures ∙ sym (copy_from-none text) ∙ sym (ap (copy_from text 0) (drop_all (length ops) ops (omega arith)))
 
 pub returns : goal.returns
-unfolding text_after
 returns g c =
     let text = g.S.UnitStore.units c.args.text.now in
     let ops = c.as_slice-ops.result.now in
     let all : c.loop-index.index ≡ 0 = omega arith in
-    c.loop-index.invariant ∙ ap (λ n. copy_from text 0 (drop n ops)) all ∙ ap (copy_from text 0) c.as_slice-ops.ensures
+    c.loop-index.invariant ∙ ap (λ n. copy_from text 0 (drop n ops)) all ∙ ap (copy_from text 0) c.as_slice-ops.ensures ∙ sym (text_after-copy c.args.self.now text)

@@ -4,10 +4,10 @@ use Rattle.pad_patch.specs.declared.patch.Patch.{Patch}
 use Rattle.pad_patch.specs.Misfit.{CanApply}
 use Rattle.std.specs.Prelude.{All}
 use Rattle.pad_merge.specs.Merge.{merged, CanMerge, IsNormal}
-use Rattle.pad_stroke.specs.Mark.{NoneInBoth}
+use Rattle.pad_stroke.specs.Mark.{NoRepeat, NoneInBoth}
 use Rattle.pad_stroke.specs.InTurn.{mark_from, NamesUnit, in_turn}
 use Rattle.pad_stroke.specs.Work.{Marked, IsWork}
-use Rattle.pad_stroke.proofs.Turns.{all_named, IsWork-in_turn, in_turn_is}
+use Rattle.pad_stroke.proofs.Turns.{all_named, NoRepeat-in_turn, IsWork-in_turn, in_turn_is}
 use Rattle.pad_stroke.proofs.work.Work.followed_by.Goals as goal
 use Rattle.pad_stroke.proofs.work.Work.followed_by.Goals.{After-as_slice-2, In_ok-marks, After-drop-sourced-2}
 
@@ -30,13 +30,12 @@ is_work c =
     let first : Marked = record { patch = c.self.inside.patch; marks = c.self.inside.marks.items } in
     let second : Marked = record { patch = c.args.patch.now; marks = c.args.marks.now } in
     let can = subst (λ (w : Marked). CanMerge w.patch second.patch c.args.len) (sym c.self.view_is) c.requires.can in
-    let apart = subst (λ (w : Marked). NoneInBoth w.marks second.marks) (sym c.self.view_is) c.requires.apart in
     let is = in_turn_is first second c.args.len c.in_ok-sourced.sourced.patch c.in_ok-sourced.sourced.from c.in_ok-marks.marks.items
     c.in_ok-sourced.ensures.merged c.in_ok-sourced.ensures.from (marks_are c) in
     let normal = subst IsNormal c.in_ok-sourced.ensures.merged c.in_ok-sourced.ensures.normal in
     subst IsWork (sym is)
     (IsWork-in_turn first second c.args.len c.origins_name_units.ensures c.self.invariant.counted c.requires.counted
-    c.one_origin_each.ensures c.no_origin_twice.ensures can normal c.self.invariant.different c.requires.different apart)
+    c.one_origin_each.ensures normal can c.self.invariant.texts c.requires.texts)
 
 pub invariant_of-result : goal.invariant_of-result
 invariant_of-result c = is_work c
@@ -64,3 +63,15 @@ returns-clause-applies c text size can_first can_second =
 pub returns-clause-before : goal.returns-clause-before
 unfolding merged
 returns-clause-before c = ap (λ (p : Patch). p.before) c.in_ok-sourced.ensures.merged ∙ ap (λ (w : Marked). w.patch.before) c.self.view_is
+
+pub returns-clause-different : goal.returns-clause-different
+returns-clause-different c once_first once_second apart =
+    let at = (goal.at.returns-clause-different c).In_ok-marks in
+    let first : Marked = record { patch = c.self.inside.patch; marks = c.self.inside.marks.items } in
+    let second : Marked = record { patch = c.args.patch.now; marks = c.args.marks.now } in
+    let can = subst (λ (w : Marked). CanMerge w.patch second.patch c.args.len) (sym c.self.view_is) c.requires.can in
+    let once = subst (λ (w : Marked). NoRepeat w.marks) (sym c.self.view_is) once_first in
+    let none = subst (λ (w : Marked). NoneInBoth w.marks second.marks) (sym c.self.view_is) apart in
+    subst NoRepeat (sym (marks_are at))
+    (subst (λ os. NoRepeat (map (mark_from first.marks second.marks) os)) (sym c.in_ok-sourced.ensures.from)
+    (NoRepeat-in_turn first second c.args.len c.origins_name_units.ensures c.self.invariant.counted c.requires.counted c.no_origin_twice.ensures can once once_second none))

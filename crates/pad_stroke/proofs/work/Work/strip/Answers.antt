@@ -2,11 +2,12 @@ use Rattle.std.proofs.Common.{◌≡◌, length, filter, sym, ◌∙◌, ap, sub
 use Rattle.std.specs.List.{All}
 use Rattle.pad_text.specs.Text.{IsText}
 use Rattle.pad_patch.specs.declared.operation.Operation.{Operation}
-use Rattle.pad_patch.specs.Piece.{inserted}
+use Rattle.pad_patch.specs.Piece.{inserted, insertions}
 use Rattle.pad_patch.specs.Misfit.{CanApply}
-use Rattle.pad_stroke.specs.Strip.{insertions, stays, staying, is_needed, thinned, stripped}
+use Rattle.pad_stroke.specs.Strip.{stays, staying, is_needed, thinned, stripped}
+use Rattle.pad_stroke.specs.Mark.{NoRepeat}
 use Rattle.pad_stroke.specs.Work.{Marked, IsWork}
-use Rattle.pad_stroke.proofs.Stripped.{IsWork-stripped, inserted-stripped, CanApply-stripped, stripped_is}
+use Rattle.pad_stroke.proofs.Stripped.{IsWork-stripped, NoRepeat-stripped, inserted-stripped, CanApply-stripped, stripped_is}
 use Rattle.pad_stroke.proofs.work.Work.strip.Goals as goal
 use Rattle.pad_stroke.proofs.work.Work.strip.Goals.{After-strip_marks}
 
@@ -34,11 +35,16 @@ now_is c =
     ∙ ap (λ ms. filter is_needed (thinned c.of.inside.marks.items c.self.inside.patch.ops ms)) marks)
     (c.strip_marks.ensures ∙ ap (λ ms. filter (stays ms) c.self.inside.marks.items) gone)
 
+texts_of : (c : After-strip_marks) → All (λ (o : Operation). IsText o.insert) (thinned (other c).marks (before c).patch.ops (before c).marks)
+texts_of c =
+    let own = subst (λ (w : Marked). All (λ (o : Operation). IsText o.insert) (thinned c.args.of.now.marks w.patch.ops w.marks)) (sym c.self.view_is) c.requires in
+    subst (λ (w : Marked). All (λ (o : Operation). IsText o.insert) (thinned w.marks c.self.inside.patch.ops c.self.inside.marks.items)) (sym c.of.view_is) own
+
 pub invariant_of-self : goal.invariant_of-self
-invariant_of-self c = subst IsWork (sym (now_is c)) (IsWork-stripped (before c) (other c) c.self.invariant)
+invariant_of-self c = subst IsWork (sym (now_is c)) (IsWork-stripped (before c) (other c) c.self.invariant (texts_of c))
 
 pub returns-clause-work : goal.returns-clause-work
-returns-clause-work c = subst IsWork (sym (now_is c)) (IsWork-stripped (before c) (other c) c.self.invariant)
+returns-clause-work c = subst IsWork (sym (now_is c)) (IsWork-stripped (before c) (other c) c.self.invariant (texts_of c))
 
 pub returns-clause-stripped : goal.returns-clause-stripped
 returns-clause-stripped c = now_is c ∙ ap (λ w. stripped w (other c)) c.self.view_is ∙ ap (stripped c.args.self.now) c.of.view_is
@@ -69,3 +75,8 @@ strip_operations-requires-clause-texts c =
     let ops_same = subst (λ os. All (λ (o : Operation). IsText o.insert) (thinned c.of.inside.marks.items os c.self.inside.marks.items)) (sym ops) others in
     let gone_same = subst (λ ms. All (λ (o : Operation). IsText o.insert) (thinned ms c.into_vec.result.items c.self.inside.marks.items)) (sym c.as_slice-gone.ensures.value) ops_same in
     subst (λ ms. All (λ (o : Operation). IsText o.insert) (thinned c.as_slice-gone.result.now c.into_vec.result.items ms)) (sym c.as_slice.ensures.value) gone_same
+
+pub returns-clause-different : goal.returns-clause-different
+returns-clause-different c different =
+    let once = subst (λ (w : Marked). NoRepeat w.marks) (sym c.self.view_is) different in
+    subst (λ (w : Marked). NoRepeat w.marks) (sym (now_is c)) (NoRepeat-stripped (before c) (other c) once)

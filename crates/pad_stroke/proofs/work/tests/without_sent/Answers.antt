@@ -33,5 +33,5 @@ strip-requires c =
     let work = c.args.work in
     let sent = c.in_ok-sent.sent in
     let all = subst (λ (w : Marked). All (λ (mark : Mark). Contains w.marks mark) work.marks) (sym c.in_ok-sent.ensures.copy) (own work.marks) in
-    c.pairs_stay_whole.ensures work sent c.patch.ensures.work.counted c.in_ok-_patch.ensures.texts
-    (keeps work sent c.patch.ensures.work.counted all)
+    c.pairs_stay_whole.ensures work sent c.copy.ensures.work.counted c.copy.ensures.work.texts
+    (keeps work sent c.copy.ensures.work.counted all)

@@ -5,7 +5,7 @@ use Rattle.std.proofs.lemmas.List.{take_more}
 use Rattle.std.proofs.lemmas.List.Elements.{All-nil, All-cons, All-append}
 use Rattle.pad_text.specs.Text.{IsText}
 use Rattle.pad_patch.specs.declared.operation.Operation.{Operation}
-use Rattle.pad_stroke.proofs.work.copy_of.Goals as goal
+use Rattle.pad_patch.proofs.patch.Patch.copy.Goals as goal
 
 abbrev InsertsText : Operation → Type 0
 InsertsText operation = IsText operation.insert
@@ -23,5 +23,5 @@ loop-op-preserved c =
       texts = subst (λ os. All InsertsText (take (index + 1) os)) same
           (subst (All InsertsText) (sym (take_more ops index op within))
           (All-append InsertsText (take index ops) (get_or ops index op ∷ []) before
-          (All-cons InsertsText (get_or ops index op) [] (subst InsertsText c.op-item.is c.copy_of_operation.ensures.text) (All-nil InsertsText))));
+          (All-cons InsertsText (get_or ops index op) [] (subst InsertsText c.op-item.is c.copy.ensures.text) (All-nil InsertsText))));
     }

@@ -1,0 +1,5 @@
+use Rattle.pad_row.proofs.Steps.{edited}
+use Rattle.pad_row.proofs.own.edited.Goals as goal
+
+pub returns : goal.returns
+returns c = edited

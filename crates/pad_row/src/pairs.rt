@@ -1,0 +1,42 @@
+//! Marks and their units: laws of surrogate pairs, each proved once.
+ghost use Rattle.pad_row.specs.Pairs.{TypedPaired, TurnWhole, CarriedWhole, StrippedWhole, StripsWhole, TurnTyped, CarriedTyped, StrippedTyped};
+
+/// The two units of each pair that one edit types have successive marks.
+pub fn typed_paired()
+    ensures { TypedPaired }
+{}
+
+/// So have those of two works in turn, if they have in each.
+pub fn turn_whole()
+    ensures { TurnWhole }
+{}
+
+/// So have those of a carried work.
+pub fn carried_whole()
+    ensures { CarriedWhole }
+{}
+
+/// So have those of a stripped work, of whose pairs both units stay or neither.
+pub fn stripped_whole()
+    ensures { StrippedWhole }
+{}
+
+/// Of two works whose units were typed under their marks the one can be stripped of the other.
+pub fn strips_whole()
+    ensures { StripsWhole }
+{}
+
+/// In two works in turn each mark stays with its unit.
+pub fn turn_typed()
+    ensures { TurnTyped }
+{}
+
+/// In a carried work each mark stays with its unit.
+pub fn carried_typed()
+    ensures { CarriedTyped }
+{}
+
+/// In a stripped work each mark stays with its unit.
+pub fn stripped_typed()
+    ensures { StrippedTyped }
+{}
