@@ -1,4 +1,4 @@
-ghost use Rattle.std.specs.Prelude.{◌≡◌, ℕ, ◌+◌, ◌≤◌, List, length, OnOk};
+ghost use Rattle.std.specs.Prelude.{◌≡◌, ℕ, ◌+◌, ◌-◌, ◌^◌, min, ◌≤◌, List, length, OnOk};
 ghost use Rattle.pad_edge.specs.Count.{HasCause};
 ghost use Rattle.disk_volume.specs.Clock.{Ticked};
 ghost use Rattle.disk_volume.specs.Disk.{file_at, at_rest, reads, put, Partly, AtRest, IsImage};
@@ -21,6 +21,7 @@ pub fn write_synced<V: Volume>(
         Partly at (length piece.now) (reads (V.disk volume.old) file.now) (image file.now)) }
     ensures files { V.tells → Grew (λ name. name ≡ file.now) (V.disk volume.old) (V.disk volume.new) }
     ensures clock { V.clock volume.new ≤ V.clock volume.old + 2 }
+    ensures calls { OnOk result (V.clock volume.new ≡ min (V.clock volume.old + 2) (2 ^ 64 - 1)) }
     ensures follows { V.follows volume.old volume.new }
     ensures cause { HasCause (V.faults volume.old) (V.faults volume.new) result }
 {

@@ -1,17 +1,14 @@
 -- What a crash may leave of a log in each step of an append and of a priming.
-use Rattle.std.proofs.Common.{◌≡◌, ◌≢◌, inl, ℕ, ◌+◌, ◌<◌, ◌^◌, List, [], ◌∷◌, ◌++◌, length, drop, Some, refl, ◌∙◌, sym, ap, subst, arith}
+use Rattle.std.proofs.Common.{◌≡◌, ◌≢◌, inl, ℕ, suc, ◌+◌, ◌-◌, ◌*◌, ◌≤◌, List, [], ◌∷◌, ◌++◌, length, drop, Some, refl, ◌∙◌, sym, ap, subst, arith}
 use Rattle.std.proofs.lemmas.List.{append-nil, append_assoc, length-append, drop_all}
 use Rattle.std.proofs.lemmas.Bool.{cond-true, le-leb}
-use Rattle.std.proofs.lemmas.Nat.{from_be_bytes-to_be_bytes_4}
-use Rattle.std.specs.Int.{w32, to_be_bytes}
 use Rattle.disk_volume.specs.Disk.{Disk, File, file_at, at_rest, reads, Partly, put}
 use Rattle.disk_volume.specs.Moments.{Grew, EachSince}
 use Rattle.disk_volume.specs.Lemmas.Since.{each_then}
-use Rattle.gated_log.specs.File.{opens, doubt_of}
-use Rattle.gated_log.specs.Frame.{IsFrame}
+use Rattle.log_format.specs.File.{opens, doubt_of, entries, payloads_from, IsEntries}
+use Rattle.log_format.specs.Frames.{IsGroup}
+use Rattle.log_format.proofs.CallerLemmas.{entries-append, length-entries, payloads_from-entries, payloads_from-shut, opens-shut, opens_either, behind, doubt_of-torn, group_entries}
 use Rattle.gated_log.specs.Holds.{Holds, IsShort, OpensWithin}
-use Rattle.gated_log.specs.Entries.{payloads_from-entry, entries-append, one_entry}
-use Rattle.gated_log.specs.Opens.{opens-shut, opens_either, payloads_from-shut, behind, doubt_of-torn}
 use Rattle.gated_log.proofs.Places.{put_gate, partly_gate, put_behind, partly_behind}
 
 -- the bytes of a log that stands
@@ -50,63 +47,60 @@ gate_written magic name place byte written payloads old new eight held now =
     ∙ put_gate (magic ++ held.front) byte held.rest place written (at_place held eight)
     ∙ append_assoc magic held.front (written ∷ held.rest))
 
--- On this disk a payload's record stands behind the closed gate, and another closed gate behind it.
-pub record IsFramed (magic name : List ℕ) (place : ℕ) (payload : List ℕ) (payloads : List (List ℕ)) (disk : Disk) : Type 0 where
+-- On this disk the entries of these payloads stand behind the gate, but that it is closed, and another closed gate behind them.
+pub record IsFramed (magic name : List ℕ) (place : ℕ) (payloads added : List (List ℕ)) (disk : Disk) : Type 0 where
   pub held : Holds magic name place 0 payloads disk
   pub more : List ℕ
-  pub rest_is : held.rest ≡ to_be_bytes w32 (length payload) ++ (payload ++ 0 ∷ more)
-  pub small : length payload < 2 ^ 32
+  pub rest_is : 1 ∷ held.rest ≡ entries added ++ 0 ∷ more
+  pub are : IsEntries (entries added) added
 
--- the frame was written
-pub framed : (magic name : List ℕ) (place : ℕ) (frame payload : List ℕ) (payloads : List (List ℕ)) (old new : Disk) → length magic ≡ 8
-    → Holds magic name place 0 payloads old → IsFrame frame payload → file_at new name ≡ at_rest (put (reads old name) (place + 1) frame)
-    → IsFramed magic name place payload payloads new
-framed magic name place frame payload payloads old new eight held is_frame written =
-    let behind_it = drop (length frame) held.rest in
-    let size = to_be_bytes w32 (length payload) in
-    let rest_is : frame ++ behind_it ≡ size ++ (payload ++ 0 ∷ behind_it) =
-    ap (λ (l : List ℕ). l ++ behind_it) is_frame.bytes_are ∙ append_assoc (size ++ payload) (0 ∷ []) behind_it ∙ append_assoc size payload (0 ∷ behind_it) in
-    let bytes : put (reads old name) (place + 1) frame ≡ magic ++ (held.front ++ 0 ∷ (frame ++ behind_it)) =
-    ap (λ (l : List ℕ). put l (place + 1) frame) (reads_held held)
-    ∙ put_behind (magic ++ held.front) 0 held.rest place frame (at_place held eight)
-    ∙ append_assoc magic held.front (0 ∷ (frame ++ behind_it)) in
+-- the group was written
+pub framed : (magic name : List ℕ) (place : ℕ) (bytes : List ℕ) (payloads added : List (List ℕ)) (old new : Disk) → length magic ≡ 8
+    → Holds magic name place 0 payloads old → IsGroup bytes added → file_at new name ≡ at_rest (put (reads old name) (place + 1) bytes)
+    → IsFramed magic name place payloads added new
+framed magic name place bytes payloads added old new eight held group written =
+    let behind_it = drop (length bytes) held.rest in
+    let now : put (reads old name) (place + 1) bytes ≡ magic ++ (held.front ++ 0 ∷ (bytes ++ behind_it)) =
+    ap (λ (l : List ℕ). put l (place + 1) bytes) (reads_held held)
+    ∙ put_behind (magic ++ held.front) 0 held.rest place bytes (at_place held eight)
+    ∙ append_assoc magic held.front (0 ∷ (bytes ++ behind_it)) in
     record {
-      held = record { front = held.front; rest = frame ++ behind_it; is = held.is; placed = held.placed; bytes_are = written ∙ ap at_rest bytes; shut = refl };
+      held = record { front = held.front; rest = bytes ++ behind_it; is = held.is; placed = held.placed; bytes_are = written ∙ ap at_rest now; shut = refl };
       more = behind_it;
-      rest_is = rest_is;
-      small = omega (arith, is_frame.small);
+      rest_is = ap (λ (l : List ℕ). l ++ behind_it) group.bytes_are ∙ append_assoc (entries added) (0 ∷ []) behind_it;
+      are = group_entries bytes added group;
     }
 
--- what stands behind the gate then is the payload
-behind_framed : (payload more : List ℕ) → length payload < 2 ^ 32 → behind (to_be_bytes w32 (length payload) ++ (payload ++ 0 ∷ more)) ≡ payload ∷ []
-behind_framed payload more small =
-    let size = to_be_bytes w32 (length payload) in
-    let most = length (size ++ (payload ++ 0 ∷ more)) in
-    payloads_from-entry size payload (0 ∷ more) most refl (from_be_bytes-to_be_bytes_4 (length payload) small) (omega arith)
-    ∙ ap (λ (l : List (List ℕ)). payload ∷ l) (payloads_from-shut most (0 ∷ more) refl)
+-- what stands behind the gate then is the payloads
+behind_framed : (rest more : List ℕ) (added : List (List ℕ)) → 1 ∷ rest ≡ entries added ++ 0 ∷ more → IsEntries (entries added) added → behind rest ≡ added
+behind_framed rest more added is are =
+    let few : 5 * length added ≤ length (entries added) = omega (arith, length-entries (entries added) added are) in
+    let size : suc (length rest) ≡ length (entries added) + suc (length more) = omega (arith, ap (λ (l : List ℕ). length l) is, length-append (entries added) (0 ∷ more)) in
+    let most = suc (length rest) - length added in
+    ap (payloads_from (suc (length rest))) is
+    ∙ payloads_from-entries (entries added) (0 ∷ more) added most (suc (length rest)) are (omega arith) (omega arith)
+    ∙ ap (λ (l : List (List ℕ)). added ++ l) (payloads_from-shut most (0 ∷ more) refl) ∙ append-nil added
 
--- so it counts or it does not
-pub opened_each : (magic name : List ℕ) (place : ℕ) (payload : List ℕ) (payloads : List (List ℕ)) (disk : Disk) (bytes : List ℕ) → length magic ≡ 8
-    → IsFramed magic name place payload payloads disk → Partly place 1 (reads disk name) bytes → OpensWithin magic payloads (payload ∷ []) bytes
-opened_each magic name place payload payloads disk bytes eight stands partly =
-    let P : List (List ℕ) → Type 0 = λ added. OpensWithin magic payloads added bytes in
-    subst P (ap behind stands.rest_is ∙ behind_framed payload stands.more stands.small) (gate_each magic name place 0 payloads disk bytes eight stands.held partly)
+-- while the gate is opened, the group counts or it does not
+pub opened_each : (magic name : List ℕ) (place : ℕ) (payloads added : List (List ℕ)) (disk : Disk) (bytes : List ℕ) → length magic ≡ 8
+    → IsFramed magic name place payloads added disk → Partly place 1 (reads disk name) bytes → OpensWithin magic payloads added bytes
+opened_each magic name place payloads added disk bytes eight stands partly =
+    let P : List (List ℕ) → Type 0 = λ all. OpensWithin magic payloads all bytes in
+    subst P (behind_framed stands.held.rest stands.more added stands.rest_is stands.are) (gate_each magic name place 0 payloads disk bytes eight stands.held partly)
 
 -- and once the gate is open, it does
-pub opened_holds : (magic name : List ℕ) (place : ℕ) (payload : List ℕ) (payloads : List (List ℕ)) (old new : Disk) → length magic ≡ 8
-    → IsFramed magic name place payload payloads old → file_at new name ≡ at_rest (put (reads old name) place (1 ∷ []))
-    → Holds magic name (place + 5 + length payload) 0 (payloads ++ payload ∷ []) new
-opened_holds magic name place payload payloads old new eight stands written =
-    let size = to_be_bytes w32 (length payload) in
+pub opened_holds : (magic name : List ℕ) (place size : ℕ) (payloads added : List (List ℕ)) (old new : Disk) → length magic ≡ 8
+    → IsFramed magic name place payloads added old → size ≡ length (entries added) → file_at new name ≡ at_rest (put (reads old name) place (1 ∷ []))
+    → Holds magic name (place + size) 0 (payloads ++ added) new
+opened_holds magic name place size payloads added old new eight stands long written =
     let front = stands.held.front in
     record {
-      front = front ++ 1 ∷ (size ++ payload);
+      front = front ++ entries added;
       rest = stands.more;
-      is = entries-append front (1 ∷ (size ++ payload)) payloads (payload ∷ []) stands.held.is (one_entry size payload refl (from_be_bytes-to_be_bytes_4 (length payload) stands.small));
-      placed = omega (arith, length-append front (1 ∷ (size ++ payload)), length-append size payload, stands.held.placed);
+      is = entries-append front (entries added) payloads added stands.held.is stands.are;
+      placed = omega (arith, length-append front (entries added), stands.held.placed, long);
       bytes_are = gate_written magic name place 0 1 payloads old new eight stands.held written
-          ∙ ap (λ (l : List ℕ). at_rest (magic ++ l)) (ap (λ (l : List ℕ). front ++ 1 ∷ l) (stands.rest_is ∙ sym (append_assoc size payload (0 ∷ stands.more)))
-          ∙ sym (append_assoc front (1 ∷ (size ++ payload)) (0 ∷ stands.more)));
+          ∙ ap (λ (l : List ℕ). at_rest (magic ++ l)) (ap (λ (l : List ℕ). front ++ l) stands.rest_is ∙ sym (append_assoc front (entries added) (0 ∷ stands.more)));
       shut = refl;
     }
 
@@ -118,17 +112,17 @@ before_entry magic name place size added payloads old mid eight held written ima
     inl (behind_each magic name place size payloads old (image name) eight held (written image left))
 
 -- both writes of an append
-pub through_entry : (magic name : List ℕ) (place : ℕ) (frame payload : List ℕ) (payloads : List (List ℕ)) (old mid new : Disk) → length magic ≡ 8
-    → Holds magic name place 0 payloads old → IsFrame frame payload → Grew (λ file. file ≡ name) mid new
-    → EachSince old mid (λ image. Partly (place + 1) (length frame) (reads old name) (image name))
-    → file_at mid name ≡ at_rest (put (reads old name) (place + 1) frame)
+pub through_entries : (magic name : List ℕ) (place : ℕ) (bytes : List ℕ) (payloads added : List (List ℕ)) (old mid new : Disk) → length magic ≡ 8
+    → Holds magic name place 0 payloads old → IsGroup bytes added → Grew (λ file. file ≡ name) mid new
+    → EachSince old mid (λ image. Partly (place + 1) (length bytes) (reads old name) (image name))
+    → file_at mid name ≡ at_rest (put (reads old name) (place + 1) bytes)
     → EachSince mid new (λ image. Partly place 1 (reads mid name) (image name))
-    → EachSince old new (λ image. OpensWithin magic payloads (payload ∷ []) (image name))
-through_entry magic name place frame payload payloads old mid new eight held is_frame grew first written second =
-    let stands = framed magic name place frame payload payloads old mid eight held is_frame written in
-    each_then old mid new (λ image. OpensWithin magic payloads (payload ∷ []) (image name)) grew
-    (before_entry magic name place (length frame) (payload ∷ []) payloads old mid eight held first)
-    (λ image left. opened_each magic name place payload payloads mid (image name) eight stands (second image left))
+    → EachSince old new (λ image. OpensWithin magic payloads added (image name))
+through_entries magic name place bytes payloads added old mid new eight held group grew first written second =
+    let stands = framed magic name place bytes payloads added old mid eight held group written in
+    each_then old mid new (λ image. OpensWithin magic payloads added (image name)) grew
+    (before_entry magic name place (length bytes) added payloads old mid eight held first)
+    (λ image left. opened_each magic name place payloads added mid (image name) eight stands (second image left))
 
 -- closing a gate that is no entry's leaves the list, or the list and what was doubtful
 pub closed_each : (magic name : List ℕ) (place byte : ℕ) (payloads : List (List ℕ)) (disk : Disk) (bytes : List ℕ) → length magic ≡ 8 → byte ≢ 0

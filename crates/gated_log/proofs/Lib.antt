@@ -5,3 +5,5 @@ pub mod Pieces
 pub mod Opening
 pub mod Appended
 pub mod Records
+pub mod Indexes
+pub mod Cuts

@@ -1,7 +1,7 @@
 -- How the file of a log stands on a disk.
 use Rattle.std.specs.Prelude.{◌≡◌, ℕ, ◌+◌, ◌≤◌, false, List, ◌∷◌, ◌++◌, length, Some}
 use Rattle.disk_volume.specs.Disk.{Disk, file_at, at_rest, reads, AtRest}
-use Rattle.gated_log.specs.File.{is_entry, opens, IsEntries}
+use Rattle.log_format.specs.File.{is_entry, opens, IsEntries}
 use Rattle.gated_log.specs.Ledger.{Within}
 
 -- On this disk the file has these payloads behind open gates, and its last gate, with this byte, at this place.

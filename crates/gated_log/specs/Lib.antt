@@ -1,11 +1,7 @@
-pub mod Damages
-pub mod Entries
-pub mod File
-pub mod Found
-pub mod Frame
+pub mod Extents
 pub mod Holds
-pub mod Laws
+pub mod Inside
 pub mod Ledger
+pub mod Lemmas
 pub mod Log
-pub mod Opens
-pub mod Walked
+pub mod Refused

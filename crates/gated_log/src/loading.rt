@@ -1,29 +1,22 @@
-ghost use Rattle.std.specs.Prelude.{◌≡◌, ◌+◌, ◌-◌, ◌≤◌, ◌^◌, ◌++◌, [], ◌∷◌, List, ℕ, length, take, Bool, false, MatchResult, MatchOption, IfOk, IfErr, IsErrOf, Some};
+ghost use Rattle.std.specs.Prelude.{◌≡◌, ◌⊎◌, ◌+◌, ◌-◌, ◌*◌, ◌≤◌, ◌++◌, [], ◌∷◌, List, ℕ, length, take, Bool, false, MatchResult, MatchOption, IfOk, IfErr, IsErrOf, Some};
 ghost use Rattle.std.specs.Str.{bytes_eq};
 ghost use Rattle.pad_edge.specs.Count.{Rose};
 ghost use Rattle.disk_volume.specs.Disk.{Disk, file_at, at_rest, reads, AtRest, IsImage};
 ghost use Rattle.disk_volume.specs.Moments.{EachSince, Grew, OnlySyncs};
-ghost use Rattle.gated_log.specs.Damages.{damage_of, MayRefuse};
-ghost use Rattle.gated_log.specs.File.{magic_one};
-ghost use Rattle.gated_log.specs.Found.{IsFound};
-ghost use Rattle.gated_log.specs.Walked.{IsLast};
+ghost use Rattle.log_format.specs.Damages.{damage_of};
+ghost use Rattle.log_format.specs.Form.{magic_of, most_entries_of, most_bytes_of};
+ghost use Rattle.gated_log.specs.declared.extent.Extent.{Extent};
+ghost use Rattle.gated_log.specs.Inside.Found.{IsFound};
+ghost use Rattle.gated_log.specs.Refused.{MayRefuse};
+ghost use Rattle.gated_log.specs.Inside.Walked.{IsLast};
 
-use crate::damage::Damage;
+use crate::extent::Extent;
 use crate::gate::Gate;
-use crate::piece::{end_seen, read_piece};
-use crate::priming::EMPTY_LOG;
+use crate::piece::{PIECE, read_piece};
 use crate::refused::LoadRefused;
 use crate::walking::find_gate;
 use disk_volume::{Volume, settle};
-
-/// The first eight bytes of a log file.
-const MAGIC: [u8; 8] = *b"PADLOG1\n";
-
-/// The most entries that a log may have.
-pub const MOST_ENTRIES: u64 = 1_048_576;
-
-/// The most bytes that a log file may have.
-pub const MOST_BYTES: u64 = 1 << 30;
+use log_format::{Damage, Form};
 
 /// What a load finds in a file.
 #[derive(Clone, Copy, Debug)]
@@ -35,37 +28,34 @@ pub struct Found {
 }
 
 /// What is found in a file of at most nine bytes.
-fn found_short(bytes: &[u8]) -> Found
+fn found_short(form: Form, bytes: &[u8]) -> Found
     requires { length bytes.now ≤ 9 }
-    ensures { (name : List ℕ) (disk : Disk) → file_at disk name ≡ at_rest bytes.now → IsFound name disk result }
+    ensures { (name : List ℕ) (disk : Disk) → file_at disk name ≡ at_rest bytes.now → IsFound form name disk [] result }
 {
     Found {
-        short: bytes != EMPTY_LOG.as_slice(),
-        gate: Gate {
-            place: 8,
-            byte: 0,
-            count: 0,
-        },
+        short: bytes != form.empty_log().as_slice(),
+        gate: Gate { place: 8, byte: 0 },
     }
 }
 
-/// What is found in a longer file with this last gate.
-fn found_gate(gate: Gate) -> Result<Found, Damage>
-    ensures { (name bytes : List ℕ) (disk : Disk) → file_at disk name ≡ at_rest bytes → length bytes ≤ 2 ^ 30 → take 8 bytes ≡ magic_one
-        → IsLast bytes (2 ^ 64 - 1) gate → MatchResult result (IsFound name disk) (λ damage. damage_of magic_one bytes ≡ Some damage) }
+/// What is found in a longer file with this last gate, and this many entries in front of it.
+fn found_gate(form: Form, gate: Gate, count: u64) -> Result<Found, Damage>
+    ensures { (name bytes : List ℕ) (disk : Disk) (index : List Extent) → count ≡ length index → file_at disk name ≡ at_rest bytes
+        → length bytes ≤ most_bytes_of form → take 8 bytes ≡ magic_of form → IsLast bytes (most_entries_of form + 1) index gate
+        → MatchResult result (IsFound form name disk index) (λ damage. damage_of form bytes ≡ Some damage) }
 {
-    if gate.count > MOST_ENTRIES {
+    if count > form.most_entries() {
         return Err(Damage::Many);
     }
     Ok(Found { short: false, gate })
 }
 
 /// The damage of a file that begins with these eight bytes, where they are not the magic.
-fn magic_damage(head: &[u8]) -> Option<Damage>
+fn magic_damage(form: Form, head: &[u8]) -> Option<Damage>
     requires { length head.now ≡ 8 }
-    ensures { MatchOption result (head.now ≡ magic_one) (λ damage. (damage ≡ Damage.Magic head.now) × (bytes_eq head.now magic_one ≡ false)) }
+    ensures { MatchOption result (head.now ≡ magic_of form) (λ damage. (damage ≡ Damage.Magic head.now) × (bytes_eq head.now (magic_of form) ≡ false)) }
 {
-    if head == MAGIC.as_slice() {
+    if head == form.magic().as_slice() {
         return None;
     }
     Some(Damage::Magic([
@@ -73,71 +63,91 @@ fn magic_damage(head: &[u8]) -> Option<Damage>
     ]))
 }
 
-/// Finds the last gate of a file of this length on which nothing is pending. It only reads.
+/// Finds the last gate of a file of this length on which nothing is pending, and makes its index. It only reads.
 pub fn find_log<V: Volume>(
     volume: &mut V,
     file: &str,
+    form: Form,
     size: u64,
     piece: &mut [u8],
+    index: &mut Vec<Extent>,
 ) -> Result<Found, LoadRefused>
-    requires small { size ≤ 2 ^ 30 }
-    requires buffer { 10 ≤ length piece.old }
+    requires small { size ≤ most_bytes_of form }
+    requires buffer { length piece.old ≡ PIECE }
+    requires fresh { index.old.items ≡ [] }
     requires told { V.tells → AtRest (V.disk volume.old) file.now × (size ≡ length (reads (V.disk volume.old) file.now)) }
-    ensures found { V.tells → IfOk result (IsFound file.now (V.disk volume.old)) }
-    ensures damaged { V.tells → IfErr result (MayRefuse (damage_of magic_one (reads (V.disk volume.old) file.now))) }
+    ensures found { V.tells → IfOk result (IsFound form file.now (V.disk volume.old) index.new.items) }
+    ensures damaged { V.tells → IfErr result (MayRefuse (damage_of form (reads (V.disk volume.old) file.now))) }
     ensures disk { V.tells → V.disk volume.new ≡ V.disk volume.old }
+    ensures clock { (calls : ℕ) × (V.clock volume.new ≤ V.clock volume.old + 1 + calls) × ((PIECE - 4) * calls ≤ size) }
+    ensures follows { V.follows volume.old volume.new }
     ensures store { IsErrOf result LoadRefused.Store → Rose (V.faults volume.old) (V.faults volume.new) }
+    ensures kept { IsErrOf result LoadRefused.Store ⊎ (V.faults volume.new ≡ V.faults volume.old) }
     ensures later { V.faults volume.old ≤ V.faults volume.new }
 {
     let count = read_piece(volume, file, 0, size, piece)?;
     if count <= 9 {
-        return Ok(found_short(&piece[..count]));
+        return Ok(found_short(form, &piece[..count]));
     }
-    if let Some(damage) = magic_damage(&piece[..8]) {
+    if let Some(damage) = magic_damage(form, &piece[..8]) {
         return Err(LoadRefused::Damaged(damage));
     }
-    let end = end_seen(0, count, piece.len(), size);
-    let gate = find_gate(volume, file, end, u64::MAX, piece)?;
-    Ok(found_gate(gate)?)
+    let most = form.most_entries() as usize + 1;
+    let gate = find_gate(volume, file, size, count, most, piece, index)?;
+    Ok(found_gate(form, gate, index.len() as u64)?)
 }
 
-/// Finds the last gate of a file on which nothing is pending. It only reads.
+/// Finds the last gate of a file on which nothing is pending, and makes its index. It only reads.
 fn find_at_rest<V: Volume>(
     volume: &mut V,
     file: &str,
+    form: Form,
     piece: &mut [u8],
+    index: &mut Vec<Extent>,
 ) -> Result<Found, LoadRefused>
-    requires buffer { 10 ≤ length piece.old }
+    requires buffer { length piece.old ≡ PIECE }
+    requires fresh { index.old.items ≡ [] }
     requires told { V.tells → AtRest (V.disk volume.old) file.now }
-    ensures found { V.tells → IfOk result (IsFound file.now (V.disk volume.old)) }
-    ensures damaged { V.tells → IfErr result (MayRefuse (damage_of magic_one (reads (V.disk volume.old) file.now))) }
+    ensures found { V.tells → IfOk result (IsFound form file.now (V.disk volume.old) index.new.items) }
+    ensures damaged { V.tells → IfErr result (MayRefuse (damage_of form (reads (V.disk volume.old) file.now))) }
     ensures disk { V.tells → V.disk volume.new ≡ V.disk volume.old }
+    ensures clock { (size : ℕ) × (calls : ℕ) × (V.clock volume.new ≤ V.clock volume.old + 2 + calls) × ((PIECE - 4) * calls ≤ size)
+        × (size ≤ most_bytes_of form) × (V.tells → size ≤ length (reads (V.disk volume.old) file.now)) }
+    ensures follows { V.follows volume.old volume.new }
     ensures store { IsErrOf result LoadRefused.Store → Rose (V.faults volume.old) (V.faults volume.new) }
+    ensures kept { IsErrOf result LoadRefused.Store ⊎ (V.faults volume.new ≡ V.faults volume.old) }
     ensures later { V.faults volume.old ≤ V.faults volume.new }
 {
     let size = volume.length(file)?;
-    if size > MOST_BYTES {
+    if size > form.most_bytes() {
         return Err(LoadRefused::Damaged(Damage::Long(size)));
     }
-    find_log(volume, file, size, piece)
+    find_log(volume, file, form, size, piece, index)
 }
 
-/// Puts a file on the disk, and finds its last gate. It writes nothing.
+/// Puts a file on the disk, finds its last gate, and makes its index. It writes nothing.
 pub fn find_settled<V: Volume>(
     volume: &mut V,
     file: &str,
+    form: Form,
     piece: &mut [u8],
+    index: &mut Vec<Extent>,
 ) -> Result<Found, LoadRefused>
-    requires { 10 ≤ length piece.old }
-    ensures found { V.tells → IfOk result (IsFound file.now (V.disk volume.new)) }
-    ensures damaged { V.tells → IfErr result (MayRefuse (damage_of magic_one (reads (V.disk volume.old) file.now))) }
+    requires buffer { length piece.old ≡ PIECE }
+    requires fresh { index.old.items ≡ [] }
+    ensures found { V.tells → IfOk result (IsFound form file.now (V.disk volume.new) index.new.items) }
+    ensures damaged { V.tells → IfErr result (MayRefuse (damage_of form (reads (V.disk volume.old) file.now))) }
     ensures any_moment { V.tells → EachSince (V.disk volume.old) (V.disk volume.new) (IsImage (V.disk volume.old)) }
     ensures reads { V.tells → (name : List ℕ) → reads (V.disk volume.new) name ≡ reads (V.disk volume.old) name }
     ensures files { V.tells → Grew (λ name. name ≡ file.now) (V.disk volume.old) (V.disk volume.new) }
     ensures syncs { V.tells → OnlySyncs (λ name. name ≡ file.now) (V.disk volume.old) (V.disk volume.new) }
+    ensures clock { (size : ℕ) × (calls : ℕ) × (V.clock volume.new ≤ V.clock volume.old + 3 + calls) × ((PIECE - 4) * calls ≤ size)
+        × (size ≤ most_bytes_of form) × (V.tells → size ≤ length (reads (V.disk volume.old) file.now)) }
+    ensures follows { V.follows volume.old volume.new }
     ensures store { IsErrOf result LoadRefused.Store → Rose (V.faults volume.old) (V.faults volume.new) }
+    ensures kept { IsErrOf result LoadRefused.Store ⊎ (V.faults volume.new ≡ V.faults volume.old) }
     ensures later { V.faults volume.old ≤ V.faults volume.new }
 {
     settle(volume, file)?;
-    find_at_rest(volume, file, piece)
+    find_at_rest(volume, file, form, piece, index)
 }

@@ -7,7 +7,7 @@ use pad_edge::Failed;
 use std::alloc::{AllocError, Global};
 
 /// How many bytes of a file are read at once.
-const PIECE: usize = 65_536;
+pub const PIECE: usize = 65_536;
 
 /// A buffer for a piece of a file.
 pub fn new_piece(alloc: Global) -> Result<Vec<u8>, AllocError>
@@ -31,6 +31,8 @@ pub fn read_piece<V: Volume>(
         × (take count piece.new ≡ take count (drop from (take end (reads (V.disk volume.old) file.now))))) }
     ensures within { IfOk result (λ count. count ≤ min (length piece.old) (end - from)) }
     ensures disk { V.tells → V.disk volume.new ≡ V.disk volume.old }
+    ensures clock { V.clock volume.new ≤ V.clock volume.old + 1 }
+    ensures follows { V.follows volume.old volume.new }
     ensures cause { HasCause (V.faults volume.old) (V.faults volume.new) result }
 {
     let asked = (piece.len() as u64).min(end - from) as usize;

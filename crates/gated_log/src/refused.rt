@@ -2,7 +2,7 @@ ghost use Rattle.std.specs.Prelude.{◌≡◌};
 ghost use Rattle.gated_log.specs.declared.refused.LoadRefused.TheVariants.{Store as LoadStore, Damaged, NoMemory as LoadNoMemory};
 ghost use Rattle.gated_log.specs.declared.refused.PayloadRefused.TheVariants.{Store as PayloadStore, NoMemory as PayloadNoMemory};
 
-use crate::damage::Damage;
+use log_format::Damage;
 use pad_edge::Failed;
 use std::alloc::AllocError;
 use thiserror::Error;

@@ -7,8 +7,6 @@ pub struct Walk {
     pub before: u64,
     /// The place of the gate that it reached.
     pub gate: u64,
-    /// How many entries it went over.
-    pub count: u64,
     /// Where the file ends.
     pub end: u64,
 }

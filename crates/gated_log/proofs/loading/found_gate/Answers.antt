@@ -1,10 +1,11 @@
-use Rattle.gated_log.proofs.Opening.{at_gate, gate_found, many_found}
+use Rattle.std.proofs.Common.{arith}
+use Rattle.gated_log.proofs.Opening.{gate_found, many_found}
 use Rattle.gated_log.proofs.loading.found_gate.Goals as goal
 
-pub returns-then-gate-gt-MOST_ENTRIES : goal.returns-then-gate-gt-MOST_ENTRIES
-returns-then-gate-gt-MOST_ENTRIES c = λ name bytes disk rests small magic last.
-    many_found bytes c.args.gate small (at_gate bytes c.args.gate small magic last) c.if-gate-gt-MOST_ENTRIES.true
+pub returns-then-count-most_entries : goal.returns-then-count-most_entries
+returns-then-count-most_entries c = λ name bytes disk index count rests small magic last.
+    many_found c.args.form bytes _ index c.args.gate small magic last (omega (arith, count, c.most_entries.ensures, c.if-count-most_entries.true))
 
 pub returns : goal.returns
-returns c = λ name bytes disk rests small magic last.
-    gate_found name bytes disk c.args.gate small (at_gate bytes c.args.gate small magic last) c.if-gate-gt-MOST_ENTRIES.false rests
+returns c = λ name bytes disk index count rests small magic last.
+    gate_found c.args.form name bytes disk index c.args.gate small magic last (omega (arith, count, c.most_entries.ensures, c.if-count-most_entries.false)) rests

@@ -1,0 +1,3 @@
+-- Words that only the contracts of private functions cite.
+pub mod Found
+pub mod Walked

@@ -1,0 +1,2 @@
+-- Lemmas that the laws of the trait need.
+pub mod Laws

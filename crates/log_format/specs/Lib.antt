@@ -1,0 +1,5 @@
+pub mod Damages
+pub mod File
+pub mod Form
+pub mod Frame
+pub mod Frames
