@@ -13,3 +13,4 @@ mod Starting
 mod Sorting
 mod Undone
 mod Dropping
+mod Same

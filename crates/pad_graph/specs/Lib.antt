@@ -5,6 +5,7 @@ pub mod Graph
 pub mod Growth
 pub mod Hanging
 pub mod Inside
+pub mod Laws
 pub mod State
 pub mod Steps
 pub mod Tables
