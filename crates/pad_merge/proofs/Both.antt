@@ -5,7 +5,7 @@ use Rattle.std.specs.Char.Utf16.{utf16_chars, is_high_surrogate, is_low_surrogat
 use Rattle.std.proofs.lemmas.List.{length-map}
 use Rattle.pad_text.specs.declared.name.Name.{Name}
 use Rattle.pad_text.specs.Text.{IsText, CutsPair}
-use Rattle.pad_text.proofs.Texts.{IsText-nil, IsText-append}
+use Rattle.pad_text.proofs.CallerLemmas.{IsText-nil, IsText-append}
 use Rattle.pad_patch.specs.declared.operation.Operation.{Operation}
 use Rattle.pad_patch.specs.declared.patch.Patch.{Patch}
 use Rattle.pad_patch.specs.Piece.{end_of, length_after, text_after}

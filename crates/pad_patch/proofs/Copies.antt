@@ -6,7 +6,7 @@ use Rattle.std.proofs.Math.Seq.{take-add}
 use Rattle.std.proofs.lemmas.List.{take-append-drop, drop-drop, take_all, take_at, drop_at, length-take-le, append-nil, length-append, length-drop}
 use Rattle.std.proofs.lemmas.Option.{slice_get_read, slice_get_within, get_or_from_slice_get}
 use Rattle.pad_text.specs.Text.{IsText, CutsPair}
-use Rattle.pad_text.proofs.Texts.{IsText-nil, IsText-take, IsText-append, IsText-between}
+use Rattle.pad_text.proofs.CallerLemmas.{IsText-nil, IsText-take, IsText-append, IsText-between}
 use Rattle.pad_patch.specs.declared.operation.Operation.{Operation}
 use Rattle.pad_patch.specs.declared.patch.Patch.{Patch}
 use Rattle.std.proofs.lemmas.List.Sums.{sum_by-cons}

@@ -6,7 +6,7 @@ use Rattle.std.specs.Char.Utf16.{is_high_surrogate, is_low_surrogate, has_unpair
 use Rattle.std.proofs.lemmas.Bool.Decides.{nat_tests}
 use Rattle.std.proofs.lemmas.List.{drop_all, get_or_append_left}
 use Rattle.pad_text.specs.Text.{IsText, CutsPair}
-use Rattle.pad_text.proofs.Texts.{IsText-drop}
+use Rattle.pad_text.proofs.CallerLemmas.{IsText-drop}
 
 -- no unit is both surrogates
 not_both : (u : ℕ) → is_high_surrogate u ≡ true → is_low_surrogate u ≡ true → ⊥

@@ -6,7 +6,7 @@ use Rattle.std.proofs.lemmas.Option.{get_or_from_slice_get}
 use Rattle.std.proofs.lemmas.Bool.{cases_lt}
 use Rattle.pad_text.specs.Text.{IsText, CutsPair}
 use Rattle.pad_text.specs.declared.name.Name.{Name}
-use Rattle.pad_text.proofs.Texts.{IsText-append, seam-cuts_none}
+use Rattle.pad_text.proofs.CallerLemmas.{IsText-append, seam-cuts_none}
 use Rattle.pad_patch.specs.declared.operation.Operation.{Operation}
 use Rattle.pad_patch.specs.declared.patch.Patch.{Patch}
 use Rattle.pad_patch.specs.Piece.{end_of, patched, inserted, text_after}

@@ -8,7 +8,7 @@ use Rattle.std.proofs.lemmas.List.{length-map, length-append, length-drop, lengt
 use Rattle.std.proofs.lemmas.List.Elements.{All-head, All-tail}
 use Rattle.std.proofs.lemmas.List.FromFn.{length-map-range_with_len, length-range_with_len}
 use Rattle.pad_text.specs.Text.{IsText, CutsPair}
-use Rattle.pad_text.proofs.Texts.{IsText-nil, IsText-append}
+use Rattle.pad_text.proofs.CallerLemmas.{IsText-nil, IsText-append}
 use Rattle.pad_patch.specs.declared.operation.Operation.{Operation}
 use Rattle.pad_patch.specs.declared.patch.Patch.{Patch}
 use Rattle.pad_patch.specs.Piece.{end_of, patched, inserted, insertions, text_after, length_after}
@@ -85,8 +85,7 @@ good_by unit (next ∷ units) mark [] true high low up enough paired rest = absu
 good_by unit (next ∷ units) mark (own ∷ marks) true high low up enough paired rest =
     let shown : awaited unit mark ≡ Some mark = ap (λ t. cond t (Some mark) None) high in
     let row = marked (next ∷ units) (own ∷ marks) in
-    let behind = rest units marks up.2 (omega (arith, enough)) (paired_tail next units own marks (paired_tail unit (next ∷ units) mark (own ∷ marks) paired)) (omega arith) in
-    (
+    let behind = rest units marks up.2 (omega (arith, enough)) (paired_tail next units own marks (paired_tail unit (next ∷ units) mark (own ∷ marks) paired)) (omega arith) in (
       (low, subst (λ s. Goes s row) (sym shown) (up.0, next_marks unit next units mark own marks paired high up.0, behind.0)),
       ap (λ s. ending s row) shown ∙ behind.1,
     )
@@ -113,11 +112,10 @@ good_parts (operation ∷ operations) marks texts enough paired =
     let units = operation.insert in
     let rest = insertions operations in
     let sizes = length-append units rest in
-    let first : length units ≤ length marks = omega (arith, enough, sizes) in
-    (
+    let first : length units ≤ length marks = omega (arith, enough, sizes) in (
       subst Good (sym (take-marked units rest marks first)) (good_marked units marks (All-head InsertsText operation operations texts) first (paired_first units rest marks paired)),
       subst (λ us. GoodParts us operations) (sym (drop-marked units rest marks first))
-      (good_parts operations (drop (length units) marks) (All-tail InsertsText operation operations texts) (omega (arith, enough, sizes, length-drop (length units) marks)) (paired_second units rest marks paired)),
+          (good_parts operations (drop (length units) marks) (All-tail InsertsText operation operations texts) (omega (arith, enough, sizes, length-drop (length units) marks)) (paired_second units rest marks paired)),
     )
 
 -- units of a text alone are not cut

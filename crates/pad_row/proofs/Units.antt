@@ -10,7 +10,7 @@ use Rattle.std.proofs.Math.Utf8.{scalar, scalar_cases}
 use Rattle.std.proofs.lemmas.Bool.{cases_lt}
 use borrow.Author.Tests.{lt-ltb, le-leb, lt-leb, le-ltb}
 use Rattle.pad_text.specs.Text.{IsText}
-use Rattle.pad_text.proofs.Texts.{spelled}
+use Rattle.pad_text.proofs.CallerLemmas.{spelled}
 
 -- the units go up in pairs: after a high surrogate a low one is awaited, and none else
 abbrev pub GoUp : Bool → List ℕ → Type 0

@@ -5,7 +5,7 @@ use Rattle.std.specs.Option.{option_and_then}
 use Rattle.std.specs.List.{filter_map, cons_option}
 use Rattle.std.proofs.lemmas.Bool.{eqb-false, cases_lt}
 use Rattle.pad_text.specs.Text.{IsText, CutsPair}
-use Rattle.pad_text.proofs.Texts.{IsText-append}
+use Rattle.pad_text.proofs.CallerLemmas.{IsText-append}
 use Rattle.std.proofs.lemmas.List.Elements.{All-nil, All-cons, All-head, All-tail}
 use Rattle.pad_text.specs.Hash.{document_hash}
 use Rattle.pad_text.specs.declared.name.Name.{Name}

@@ -6,7 +6,7 @@ use Rattle.std.specs.Char.Utf16.{utf16_chars, lone_unit_char}
 use Rattle.std.proofs.lemmas.Bool.Decides.{nat_tests}
 use Rattle.std.proofs.lemmas.List.Elements.{All-nil, All-cons, All-head, All-tail}
 use Rattle.pad_text.specs.Text.{IsText}
-use Rattle.pad_text.proofs.Texts.{IsText-nil, IsText-append}
+use Rattle.pad_text.proofs.CallerLemmas.{IsText-nil, IsText-append}
 use Rattle.pad_patch.specs.declared.operation.Operation.{Operation}
 use Rattle.pad_stroke.specs.declared.mark.Mark.{Mark}
 use Rattle.pad_stroke.specs.Strip.{stays, staying, thinned}

@@ -12,7 +12,7 @@ use borrow.Author.Tests.{lt-ltb, le-leb}
 use Rattle.std.proofs.lemmas.List.{append-nil, length-append, length-drop, get_or-append-add, get_or_append_left, get_or-drop}
 use Rattle.std.proofs.lemmas.List.Elements.{All-nil, All-cons, All-head, All-tail}
 use Rattle.pad_text.specs.Text.{IsText, CutsPair}
-use Rattle.pad_text.proofs.Texts.{IsText-nil, IsText-append, IsText-chars, spelled}
+use Rattle.pad_text.proofs.CallerLemmas.{IsText-nil, IsText-append, IsText-chars, spelled}
 use Rattle.pad_patch.specs.declared.operation.Operation.{Operation}
 use Rattle.pad_stroke.specs.declared.mark.Mark.{Mark}
 use Rattle.pad_stroke.specs.InTurn.{no_mark}

@@ -5,7 +5,7 @@ use Rattle.std.proofs.Math.Seq.{drop-append-add}
 use Rattle.std.proofs.lemmas.List.{drop-drop, drop-take, drop-append-le, length-take-le, length-drop, length-append}
 use Rattle.std.proofs.lemmas.Bool.{cases_lt}
 use Rattle.pad_text.specs.Text.{IsText, CutsPair}
-use Rattle.pad_text.proofs.Texts.{IsText-append, IsText-take, IsText-drop, IsText-between, drop-cuts_none}
+use Rattle.pad_text.proofs.CallerLemmas.{IsText-append, IsText-take, IsText-drop, IsText-between, drop-cuts_none}
 use Rattle.pad_patch.specs.declared.operation.Operation.{Operation}
 use Rattle.pad_patch.specs.Piece.{end_of}
 use Rattle.pad_patch.specs.UnitStore.{IsRange, replaced}

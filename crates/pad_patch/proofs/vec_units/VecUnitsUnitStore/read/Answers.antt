@@ -1,5 +1,5 @@
 use Rattle.std.proofs.Common.{◌≡◌, ◌-◌, take, drop, rules}
-use Rattle.pad_text.proofs.Texts.{IsText-between}
+use Rattle.pad_text.proofs.CallerLemmas.{IsText-between}
 use Rattle.pad_patch.proofs.vec_units.VecUnitsUnitStore.read.Goals as goal
 
 pub from_units-requires : goal.from_units-requires

@@ -1,6 +1,6 @@
 use Rattle.std.proofs.Common.{◌≡◌, ◌++◌, take, drop, arith}
 use Rattle.std.proofs.lemmas.Grind.{common_steps}
-use Rattle.pad_text.proofs.Texts.{IsText-take, IsText-drop, IsText-append}
+use Rattle.pad_text.proofs.CallerLemmas.{IsText-take, IsText-drop, IsText-append}
 use Rattle.pad_patch.specs.UnitStore.{replaced}
 use Rattle.pad_patch.proofs.vec_units.VecUnitsUnitStore.replace.Goals as goal
 
