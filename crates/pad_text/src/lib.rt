@@ -8,6 +8,7 @@ mod pair;
 mod plain_text;
 mod text;
 mod utf8;
+mod wellformed;
 
 pub use digits::is_lower_hex;
 pub use laws::{

@@ -2,6 +2,7 @@ use super::{
     Name, Text, is_lower_hex, names_are_ordered_by_digits, plain, texts_are_kept_by_cuts,
     texts_are_kept_by_joins, texts_are_kept_by_utf8,
 };
+use std::alloc::{AllocError, Global};
 use std::test::Fail;
 
 /// The SHA-256 of `abc`.
@@ -37,6 +38,57 @@ fn texts_have_the_hash_of_their_utf8(rt: HostRuntime) -> Result<(), Fail> {
         );
         assert_eq!(rt; text.to_string(alloc)?.as_str(), string);
     }
+    Ok(())
+}
+
+#[test]
+fn long_texts_have_the_hash_of_their_utf8(rt: HostRuntime) -> Result<(), Fail> {
+    let alloc = rt.alloc();
+    for (count, last, digits) in [
+        (
+            512,
+            "",
+            "471be6558b665e4f6dd49f1184814d1491b0315d466beea768c153cc5500c836",
+        ),
+        (
+            1500,
+            "",
+            "b935f6b7a9c56a15e7b99c8d6d4b5e918f5a68fafc4490544a446b2ae47bf809",
+        ),
+        (
+            600,
+            "\u{E9}",
+            "ad1bce2715cf09cb28fb3c35b7c9f302815ec4cc7724465972e73a898706ee4e",
+        ),
+    ] {
+        let mut string = "a".repeat(alloc, count)?;
+        string.push_str(last)?;
+        let text = Text::from_str(alloc, string.as_str())?;
+        assert_eq!(rt;
+            text.hash(alloc)?.hex(alloc)?.as_str(),
+            digits,
+            "at {count}"
+        );
+    }
+    Ok(())
+}
+
+/// Whether units are taken as a text.
+fn is_taken(alloc: Global, units: &[u16]) -> Result<bool, AllocError> {
+    let units = units.to_vec(alloc)?;
+    Ok(Text::try_from_units(units).is_some())
+}
+
+#[test]
+fn half_a_pair_is_no_text(rt: HostRuntime) -> Result<(), Fail> {
+    let alloc = rt.alloc();
+    assert!(rt; is_taken(alloc, &[])?);
+    assert!(rt; is_taken(alloc, &[0x61, 0xD83D, 0xDE00])?);
+    assert!(rt; is_taken(alloc, &[0xD7FF, 0xE000, 0xFFFF])?);
+    assert!(rt; !is_taken(alloc, &[0x61, 0xD83D])?);
+    assert!(rt; !is_taken(alloc, &[0xDE00])?);
+    assert!(rt; !is_taken(alloc, &[0xD83D, 0xD83D, 0xDE00])?);
+    assert!(rt; !is_taken(alloc, &[0xD83D, 0xDE00, 0xDE00])?);
     Ok(())
 }
 

@@ -1,10 +1,11 @@
-ghost use Rattle.std.specs.Prelude.{◌≡◌, ℕ, ◌-◌, ◌<◌, ◌≤◌, ◌↔◌, List, length, take, drop, IfOk, IsTrue, slice_index, string_bytes};
+ghost use Rattle.std.specs.Prelude.{◌≡◌, ℕ, ◌-◌, ◌<◌, ◌≤◌, ◌↔◌, List, length, take, drop, IfOk, IsSome, IfSome, IsTrue, slice_index, string_bytes};
 ghost use Rattle.pad_text.specs.Text.{IsText, CutsPair, units_of, utf8};
 ghost use Rattle.pad_text.specs.Hash.{document_hash};
 
 use crate::name::Name;
 use crate::pair::{is_first_of_pair, is_second_of_pair};
 use crate::utf8::feed_utf8;
+use crate::wellformed::is_text;
 use sha2::{Digest, Sha256};
 use std::alloc::{AllocError, Global};
 use std::marker::Model;
@@ -33,6 +34,18 @@ impl Text {
         ensures { result ≡ units.items }
     {
         Text { units }
+    }
+
+    /// The text of these units. There is none if some surrogate stands without its partner. It takes no memory.
+    pub fn try_from_units(units: Vec<u16>) -> Option<Text>
+        ensures found { IsSome result ↔ IsText units.items }
+        ensures value { IfSome result (λ text. text ≡ units.items) }
+    {
+        if is_text(units.as_slice()) {
+            Some(Text { units })
+        } else {
+            None
+        }
     }
 
     /// The units of a string.
