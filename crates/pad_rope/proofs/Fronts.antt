@@ -12,7 +12,7 @@ use Rattle.pad_text.proofs.CallerLemmas.{end-cuts_none}
 use Rattle.pad_rope.proofs.Ranges.{between-append}
 use Rattle.pad_rope.specs.declared.saved.Saved.{Saved, After'}
 use Rattle.pad_rope.specs.declared.saved.Saved.TheVariants.{Start}
-use Rattle.pad_rope.specs.Saved.{IsSaved, AreSaved, newest_place}
+use Rattle.pad_rope.specs.Inside.Saved.{IsSaved, AreSaved, newest_place}
 use Rattle.pad_text.proofs.CallerLemmas.{utf8-append}
 
 -- a front of a front

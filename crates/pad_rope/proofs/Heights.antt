@@ -4,7 +4,7 @@ use Rattle.std.proofs.Math.Nat.{pow-succ', pow-le-pow_right, mul-le-mul_left}
 use Rattle.std.proofs.lemmas.Bool.{cases_lt}
 use Rattle.pad_text.proofs.CallerLemmas.{IsText-append}
 use Rattle.pad_rope.specs.declared.tree.TheConstants.{LEAF_SIZE}
-use Rattle.pad_rope.specs.Shape.{Shape, IsSound, DifferByAtMost}
+use Rattle.pad_rope.specs.Inside.Shape.{Shape, IsSound, DifferByAtMost}
 
 -- the square of a sum, of which one side has the height and the other has it but for one
 squares : (a b p : ℕ) → 2 * p ≤ a * a → p ≤ b * b → 4 * p ≤ (a + b) * (a + b)

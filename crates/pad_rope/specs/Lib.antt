@@ -1,5 +1,3 @@
-pub mod Shape
-pub mod Tree
-pub mod TreeFalls
-pub mod Saved
+pub mod Inside
+pub mod Lemmas
 pub mod Rope

@@ -1,6 +1,6 @@
 //! Trees side by side.
 ghost use Rattle.std.specs.Prelude.{◌≡◌, ◌+◌, ◌^◌, ◌<◌, max, length, ◌++◌, IfOk};
-ghost use Rattle.pad_rope.specs.Shape.{DifferByAtMost, IsJoinHeight};
+ghost use Rattle.pad_rope.specs.Inside.Shape.{DifferByAtMost, IsJoinHeight};
 
 use crate::tree::{LEAF_SIZE, Node, Tree, fork, leaf};
 use pad_text::Text;

@@ -3,7 +3,7 @@ ghost use Rattle.std.specs.Prelude.{◌≡◌, ◌<◌, ◌≤◌, ◌*◌, ◌^
 ghost use Rattle.pad_text.specs.Text.{IsText};
 ghost use Rattle.pad_text.specs.Hash.{document_hash};
 ghost use Rattle.pad_patch.specs.UnitStore.{IsRange, between, replaced};
-ghost use Rattle.pad_rope.specs.Shape.{IsSound};
+ghost use Rattle.pad_rope.specs.Inside.Shape.{IsSound};
 
 use crate::edit;
 use crate::saved::{Saved, hash, to_the_end, up_to};
@@ -22,8 +22,8 @@ struct Kept {
 }
 
 impl Model for Kept {
-    ghost use Rattle.pad_rope.specs.Shape.{Shape};
-    ghost use Rattle.pad_rope.specs.Saved.{AreSaved};
+    ghost use Rattle.pad_rope.specs.Inside.Shape.{Shape};
+    ghost use Rattle.pad_rope.specs.Inside.Saved.{AreSaved};
 
     ghost Value = { Shape };
 

@@ -2,7 +2,7 @@
 ghost use Rattle.std.specs.Prelude.{◌≡◌, ℕ, List, ◌+◌, ◌≤◌, length, take, IfOk};
 ghost use Rattle.pad_text.specs.Text.{CutsPair};
 ghost use Rattle.pad_text.specs.Hash.{document_hash};
-ghost use Rattle.pad_rope.specs.Saved.{AreSaved, IsSaved, newest_place};
+ghost use Rattle.pad_rope.specs.Inside.Saved.{AreSaved, IsSaved, newest_place};
 
 use crate::tree::Tree;
 use pad_text::{Name, is_first_of_pair, is_second_of_pair};

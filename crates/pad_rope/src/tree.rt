@@ -1,7 +1,7 @@
 //! The tree that a text is kept in.
 ghost use Rattle.std.specs.Prelude.{◌≡◌, ℕ, ◌+◌, ◌^◌, ◌<◌, ◌≤◌, max, length, ◌++◌, IfOk};
 ghost use Rattle.pad_text.specs.Text.{IsText};
-ghost use Rattle.pad_rope.specs.Shape.{Shape, IsSound, DifferByAtMost};
+ghost use Rattle.pad_rope.specs.Inside.Shape.{Shape, IsSound, DifferByAtMost};
 
 use pad_text::Text;
 use std::alloc::{AllocError, Global};
@@ -32,11 +32,11 @@ pub(crate) enum Node {
 }
 
 impl Model for Tree {
-    ghost use Rattle.pad_rope.specs.Shape.{Shape};
+    ghost use Rattle.pad_rope.specs.Inside.Shape.{Shape};
 
     ghost Value = { Shape };
 
-    ghost use Rattle.pad_rope.specs.Tree.{shape_of, IsNode};
+    ghost use Rattle.pad_rope.specs.Inside.Tree.{shape_of, IsNode};
 
     ghost view = { λ tree. shape_of tree.node };
 
@@ -44,7 +44,7 @@ impl Model for Tree {
 
     ghost size = { λ shape. shape.height };
 
-    ghost use Rattle.pad_rope.specs.TreeFalls.{sides_lower};
+    ghost use Rattle.pad_rope.specs.Lemmas.TreeFalls.{sides_lower};
 
     ghost size_decreases = { λ a h. sides_lower a.node h };
 }

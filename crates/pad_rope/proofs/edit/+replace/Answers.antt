@@ -2,9 +2,9 @@ use Rattle.std.proofs.Common.{◌≡◌, ◌++◌, ◌+◌, ◌-◌, length, sym
 use Rattle.std.proofs.lemmas.Result.{IfOk-weaker}
 use Rattle.pad_text.proofs.CallerLemmas.{IsText-nil}
 use Rattle.pad_patch.specs.UnitStore.{IsRange}
-use Rattle.pad_rope.specs.Shape.{Shape}
+use Rattle.pad_rope.specs.Inside.Shape.{Shape}
 use Rattle.pad_rope.specs.declared.tree.Node.{Node}
-use Rattle.pad_rope.specs.Tree.{shape_of}
+use Rattle.pad_rope.specs.Inside.Tree.{shape_of}
 use Rattle.pad_rope.proofs.Replaced.{range-right, range-front, range-back, left-changed, right-changed, both-changed}
 use Rattle.pad_rope.proofs.edit.+replace.Goals as goal
 

@@ -1,4 +1,4 @@
-use Rattle.pad_rope.specs.Saved.{AreSaved}
+use Rattle.pad_rope.specs.Inside.Saved.{AreSaved}
 use Rattle.pad_rope.proofs.saved.to_the_end.Given as goal
 
 abbrev pub invariant-more : goal.invariant-more

@@ -1,5 +1,5 @@
 use Rattle.std.proofs.Common.{List, ℕ}
-use Rattle.pad_rope.specs.Saved.{AreSaved}
+use Rattle.pad_rope.specs.Inside.Saved.{AreSaved}
 use Rattle.pad_rope.proofs.Fronts.{Serves}
 use Rattle.pad_rope.proofs.saved.up_to.Given as goal
 

@@ -1,7 +1,7 @@
 use Rattle.std.proofs.Common.{sym, subst, arith}
 use Rattle.sha2.specs.Hashers.{Holds256}
 use Rattle.pad_text.proofs.CallerLemmas.{IsText-nil, utf8-nil}
-use Rattle.pad_rope.specs.Saved.{AreSaved}
+use Rattle.pad_rope.specs.Inside.Saved.{AreSaved}
 use Rattle.pad_rope.proofs.saved.Saved.hasher.Goals as goal
 
 pub returns-in-Start : goal.returns-in-Start

@@ -1,6 +1,6 @@
 -- What a node is seen as, and what holds of it.
 use Rattle.std.specs.Prelude.{◌≡◌, ℕ, ◌+◌, ◌<◌, ◌≤◌, max, ◌++◌, length}
-use Rattle.pad_rope.specs.Shape.{Shape, IsSound, DifferByAtMost}
+use Rattle.pad_rope.specs.Inside.Shape.{Shape, IsSound, DifferByAtMost}
 use Rattle.pad_rope.specs.declared.tree.TheConstants.{LEAF_SIZE}
 use Rattle.pad_rope.specs.declared.tree.Node.{Node}
 use Rattle.pad_rope.specs.declared.tree.Node.TheVariants.{Leaf, Fork}

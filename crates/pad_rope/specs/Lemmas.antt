@@ -1,0 +1,2 @@
+-- Lemmas that the ghost members of types need.
+pub mod TreeFalls
