@@ -5,8 +5,9 @@ use Rattle.serde_json.specs.Read.{max_depth}
 use Rattle.hex.specs.Hex.{encode_lower}
 use Rattle.pad_text.specs.Digits.{IsDigits}
 use Rattle.pad_text.specs.declared.name.Name.{Name}
-use Rattle.pad_text.proofs.HexDigits.{digits-same}
+use Rattle.pad_text.proofs.HexDigits.{IsDigits-bytes, digits-same}
 use Rattle.pad_json.specs.Data.{IsSimple, array_of}
+use Rattle.pad_json.specs.Name.{IsName, name_data}
 use Rattle.pad_json.proofs.CallerLemmas.{compact_spells}
 use Rattle.netflux_codec.specs.declared.ask.Ask.{Ask}
 use Rattle.netflux_codec.specs.declared.ask.Ask.TheVariants as ask
@@ -21,14 +22,16 @@ use Rattle.netflux_codec.specs.declared.word.Word.{Word}
 use Rattle.netflux_codec.specs.declared.word.Word.TheVariants as word
 use Rattle.netflux_codec.specs.Who.{IsWho, who_digits}
 use Rattle.netflux_codec.specs.Word.{word_text}
-use Rattle.netflux_codec.specs.Ask.{AskTextsSpell, IsAsk, TextsSpellOneAsk, ask_elements, ask_text}
+use Rattle.netflux_codec.specs.Ask.{AskTextsSpell, HasSmallIndex, IsAsk, TextsSpellOneAsk, ask_elements, ask_text}
 use Rattle.netflux_codec.specs.Reply.{HasSmallCounts, IsReply, ReplyTextsSpell, TextsSpellOneReply, reply_elements, reply_text}
 use Rattle.netflux_codec.specs.Request.{AreElements, RequestTextsSpell, TextsSpellOneRequest, body_written, request_text}
 use Rattle.netflux_codec.proofs.Readings.{same_elements}
 
 -- digits are those of one name
-one_name : (first second : Name) → IsDigits 64 (encode_lower first.0) → encode_lower first.0 ≡ encode_lower second.0 → first ≡ second
-one_name first second digits same = ap (λ (bytes : List ℕ). record { 0 = bytes }) (digits-same first.0 second.0 digits.each same)
+one_name : (first second : Name) → IsName first → name_data first ≡ name_data second → first ≡ second
+one_name first second is same =
+    let digits : encode_lower first.0 ≡ encode_lower second.0 = cc in
+    ap (λ (bytes : List ℕ). record { 0 = bytes }) (digits-same first.0 second.0 (IsDigits-bytes first.0 is.bytes).each digits)
 
 -- ---- what is written
 
@@ -72,6 +75,7 @@ small_counts (reply.Msg id target content) is = tt
 small_counts (reply.Ack seq) is = tt
 small_counts (reply.Error seq word about) is = tt
 small_counts (reply.History keeper channel index sender content) is = is.2
+small_counts (reply.Entry keeper channel index moment sender content) is = is.2
 small_counts (reply.HistoryEnd keeper channel total) is = is.2
 small_counts (reply.HistoryUnknown keeper channel key) is = tt
 
@@ -84,6 +88,8 @@ simple_reply (reply.Msg id target content) is = (omega arith, (tt, (tt, (tt, (tt
 simple_reply (reply.Ack seq) is = (omega arith, (tt, tt))
 simple_reply (reply.Error seq word about) is = (omega arith, (tt, (tt, (tt, tt))))
 simple_reply (reply.History keeper channel index sender content) is = (omega arith, (tt, (tt, (tt, (omega (arith, is.2), (tt, (tt, tt)))))))
+simple_reply (reply.Entry keeper channel index moment sender content) is =
+    (omega arith, (tt, (tt, (tt, (omega (arith, is.2), (is.3, (tt, (tt, tt))))))))
 simple_reply (reply.HistoryEnd keeper channel total) is = (omega arith, (tt, (tt, (tt, (omega (arith, is.2), tt)))))
 simple_reply (reply.HistoryUnknown keeper channel key) is = (omega arith, (tt, (tt, (tt, (tt, tt)))))
 
@@ -96,6 +102,7 @@ shallow_reply (reply.Msg id target content) = omega arith
 shallow_reply (reply.Ack seq) = omega arith
 shallow_reply (reply.Error seq word about) = omega arith
 shallow_reply (reply.History keeper channel index sender content) = omega arith
+shallow_reply (reply.Entry keeper channel index moment sender content) = omega arith
 shallow_reply (reply.HistoryEnd keeper channel total) = omega arith
 shallow_reply (reply.HistoryUnknown keeper channel key) = omega arith
 
@@ -106,20 +113,27 @@ reply_spelled said is = record {
   typed = is;
 }
 
-simple_ask : (asked : Ask) → IsSimple (array_of (ask_elements asked))
-simple_ask (ask.History channel since.Default) = (tt, (tt, tt))
-simple_ask (ask.History channel (since.Known key)) = (tt, (tt, (tt, tt)))
-simple_ask (ask.History channel since.All) = (tt, (tt, tt))
+-- what is read can be written
+pub small_index : (asked : Ask) → IsAsk asked → HasSmallIndex asked
+small_index (ask.History channel from) is = tt
+small_index (ask.At channel index) is = is.1
+
+simple_ask : (asked : Ask) → IsAsk asked → IsSimple (array_of (ask_elements asked))
+simple_ask (ask.History channel since.Default) is = (tt, (tt, tt))
+simple_ask (ask.History channel (since.Known key)) is = (tt, (tt, (tt, tt)))
+simple_ask (ask.History channel since.All) is = (tt, (tt, tt))
+simple_ask (ask.At channel index) is = (tt, (tt, (omega (arith, is.1), tt)))
 
 shallow_ask : (asked : Ask) → depth (array_of (ask_elements asked)) ≤ max_depth
 shallow_ask (ask.History channel since.Default) = omega arith
 shallow_ask (ask.History channel (since.Known key)) = omega arith
 shallow_ask (ask.History channel since.All) = omega arith
+shallow_ask (ask.At channel index) = omega arith
 
 pub ask_spelled : AskTextsSpell
 unfolding ask_text
 ask_spelled asked is = record {
-  spells = compact_spells (array_of (ask_elements asked)) (simple_ask asked) (shallow_ask asked);
+  spells = compact_spells (array_of (ask_elements asked)) (simple_ask asked is) (shallow_ask asked);
   typed = is;
 }
 
@@ -164,13 +178,20 @@ alike_ask (ask.History channel since.Default) (ask.History other (since.Known ke
 alike_ask (ask.History channel since.Default) (ask.History other since.All) is same = absurd (cc)
 alike_ask (ask.History channel (since.Known key)) (ask.History other since.Default) is same = absurd (cc)
 alike_ask (ask.History channel (since.Known key)) (ask.History other (since.Known known)) is same =
-    let digits : encode_lower key.0 ≡ encode_lower known.0 = cc in
-    let equal : key ≡ known = one_name key known is.1 digits in
+    let names : name_data key ≡ name_data known = cc in
+    let equal : key ≡ known = one_name key known is.1 names in
     cc
 alike_ask (ask.History channel (since.Known key)) (ask.History other since.All) is same = absurd (cc)
 alike_ask (ask.History channel since.All) (ask.History other since.Default) is same = absurd (cc)
 alike_ask (ask.History channel since.All) (ask.History other (since.Known key)) is same = absurd (cc)
 alike_ask (ask.History channel since.All) (ask.History other since.All) is same = cc
+alike_ask (ask.History channel since.Default) (ask.At other index) is same = absurd (cc)
+alike_ask (ask.History channel (since.Known key)) (ask.At other index) is same = absurd (cc)
+alike_ask (ask.History channel since.All) (ask.At other index) is same = absurd (cc)
+alike_ask (ask.At channel index) (ask.History other since.Default) is same = absurd (cc)
+alike_ask (ask.At channel index) (ask.History other (since.Known key)) is same = absurd (cc)
+alike_ask (ask.At channel index) (ask.History other since.All) is same = absurd (cc)
+alike_ask (ask.At channel index) (ask.At other at) is same = cc
 
 pub one_ask : TextsSpellOneAsk
 one_ask text first second one other = alike_ask first second one.typed (same_elements text (ask_elements first) (ask_elements second) one.spells other.spells)
@@ -236,11 +257,13 @@ alike_reply (reply.Error seq said about) (reply.Member somebody channel) is are 
 alike_reply (reply.Error seq said about) _ is are same = absurd (cc)
 alike_reply (reply.History keeper channel index sender content) (reply.History other there at from text) is are same = cc
 alike_reply (reply.History keeper channel index sender content) _ is are same = absurd (cc)
+alike_reply (reply.Entry keeper channel index moment sender content) (reply.Entry other there at when from text) is are same = cc
+alike_reply (reply.Entry keeper channel index moment sender content) _ is are same = absurd (cc)
 alike_reply (reply.HistoryEnd keeper channel total) (reply.HistoryEnd other there count) is are same = cc
 alike_reply (reply.HistoryEnd keeper channel total) _ is are same = absurd (cc)
 alike_reply (reply.HistoryUnknown keeper channel key) (reply.HistoryUnknown other there known) is are same =
-    let digits : encode_lower key.0 ≡ encode_lower known.0 = cc in
-    let equal : key ≡ known = one_name key known is.2 digits in
+    let names : name_data key ≡ name_data known = cc in
+    let equal : key ≡ known = one_name key known is.2 names in
     cc
 alike_reply (reply.HistoryUnknown keeper channel key) _ is are same = absurd (cc)
 

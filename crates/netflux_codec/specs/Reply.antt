@@ -2,18 +2,15 @@
 use Rattle.std.specs.Prelude.{◌≡◌, ℕ, ◌^◌, ◌<◌, ◌≤◌, List, [], ◌∷◌, codes}
 use Rattle.serde_json.specs.Data.{Data, string}
 use Rattle.serde_json.specs.Written.{compact_text}
-use Rattle.hex.specs.Hex.{encode_lower}
 use Rattle.pad_text.specs.Digits.{IsDigits}
 use Rattle.pad_json.specs.Data.{array_of, whole}
+use Rattle.pad_json.specs.Name.{IsName, name_data}
 use Rattle.pad_json.specs.Spells.{Spells}
 use Rattle.netflux_codec.specs.Who.{IsWho, who_digits}
 use Rattle.netflux_codec.specs.Word.{word_text}
 use Rattle.netflux_codec.specs.declared.reply.Reply.{Reply}
 use Rattle.netflux_codec.specs.declared.reply.Reply.TheVariants as reply
-
--- the greatest index and the greatest total of a history
-abbrev pub most_entries : ℕ
-most_entries = 1048576
+use Rattle.netflux_codec.specs.declared.reply.TheConstants.{MOST_ENTRIES}
 
 -- the elements of a reply
 abbrev pub reply_elements : Reply → List Data
@@ -26,11 +23,13 @@ reply_elements (reply.Ack seq) = whole seq ∷ string (codes "ACK") ∷ []
 reply_elements (reply.Error seq word about) = whole seq ∷ string (codes "ERROR") ∷ string (word_text word) ∷ string about ∷ []
 reply_elements (reply.History keeper channel index sender content) =
     whole 0 ∷ string keeper ∷ string (codes "HISTORY") ∷ string channel ∷ whole index ∷ string sender ∷ string content ∷ []
+reply_elements (reply.Entry keeper channel index moment sender content) =
+    whole 0 ∷ string keeper ∷ string (codes "ENTRY") ∷ string channel ∷ whole index ∷ whole moment ∷ string sender ∷ string content ∷ []
 reply_elements (reply.HistoryEnd keeper channel total) = whole 0 ∷ string keeper ∷ string (codes "HISTORY_END") ∷ string channel ∷ whole total ∷ []
 reply_elements (reply.HistoryUnknown keeper channel key) =
-    whole 0 ∷ string keeper ∷ string (codes "HISTORY_UNKNOWN") ∷ string channel ∷ string (encode_lower key.0) ∷ []
+    whole 0 ∷ string keeper ∷ string (codes "HISTORY_UNKNOWN") ∷ string channel ∷ name_data key ∷ []
 
--- identities and channels have their digits, numbers 32 bits, and an index or a total is not too great
+-- identities and channels have their digits, numbers 32 bits, a moment 64, and an index or a total is not too great
 abbrev pub IsReply : Reply → Type 0
 IsReply (reply.Ident id) = IsDigits 32 id
 IsReply (reply.Joined seq channel) = (seq < 2 ^ 32) × IsDigits 32 channel
@@ -39,14 +38,17 @@ IsReply (reply.Gone id channel reason) = IsDigits 32 id × IsDigits 32 channel
 IsReply (reply.Msg id target content) = IsDigits 32 id
 IsReply (reply.Ack seq) = seq < 2 ^ 32
 IsReply (reply.Error seq word about) = seq < 2 ^ 32
-IsReply (reply.History keeper channel index sender content) = IsDigits 16 keeper × IsDigits 32 channel × (index ≤ most_entries) × IsDigits 32 sender
-IsReply (reply.HistoryEnd keeper channel total) = IsDigits 16 keeper × IsDigits 32 channel × (total ≤ most_entries)
-IsReply (reply.HistoryUnknown keeper channel key) = IsDigits 16 keeper × IsDigits 32 channel × IsDigits 64 (encode_lower key.0)
+IsReply (reply.History keeper channel index sender content) = IsDigits 16 keeper × IsDigits 32 channel × (index ≤ MOST_ENTRIES) × IsDigits 32 sender
+IsReply (reply.Entry keeper channel index moment sender content) =
+    IsDigits 16 keeper × IsDigits 32 channel × (index ≤ MOST_ENTRIES) × (moment < 2 ^ 64) × IsDigits 32 sender
+IsReply (reply.HistoryEnd keeper channel total) = IsDigits 16 keeper × IsDigits 32 channel × (total ≤ MOST_ENTRIES)
+IsReply (reply.HistoryUnknown keeper channel key) = IsDigits 16 keeper × IsDigits 32 channel × IsName key
 
 -- an index or a total in the reply is not too great
 abbrev pub HasSmallCounts : Reply → Type 0
-HasSmallCounts (reply.History keeper channel index sender content) = index ≤ most_entries
-HasSmallCounts (reply.HistoryEnd keeper channel total) = total ≤ most_entries
+HasSmallCounts (reply.History keeper channel index sender content) = index ≤ MOST_ENTRIES
+HasSmallCounts (reply.Entry keeper channel index moment sender content) = index ≤ MOST_ENTRIES
+HasSmallCounts (reply.HistoryEnd keeper channel total) = total ≤ MOST_ENTRIES
 HasSmallCounts _ = Unit {0}
 
 -- a text spells a reply

@@ -1,4 +1,4 @@
-use crate::channel::Channel;
+use crate::digits::Channel;
 use pad_edge::Wire;
 
 /// What a request asks.

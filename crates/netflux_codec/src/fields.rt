@@ -2,28 +2,22 @@
 ghost use Rattle.std.specs.Prelude.{◌≡◌, ◌≢◌, ◌↔◌, ℕ, ◌^◌, ◌<◌, ◌≤◌, List, IfNone, IfOk, IfSome, IsTrue, MatchOption};
 ghost use Rattle.serde_json.specs.Data.{string};
 ghost use Rattle.serde_json.specs.View.{view};
-ghost use Rattle.hex.specs.Hex.{encode_lower};
 ghost use Rattle.pad_text.specs.Digits.{IsDigits};
 ghost use Rattle.pad_json.specs.Data.{whole};
-ghost use Rattle.netflux_codec.specs.Reply.{most_entries};
+ghost use Rattle.netflux_codec.specs.declared.reply.TheConstants.{MOST_ENTRIES};
 ghost use Rattle.netflux_codec.specs.Who.{IsWho, who_digits};
 ghost use Rattle.netflux_codec.specs.Word.{word_text};
 ghost use Rattle.netflux_codec.specs.declared.who.Who.{Who};
 ghost use Rattle.netflux_codec.specs.declared.word.Word.{Word};
-ghost use Rattle.pad_text.specs.declared.name.Name.{Name};
 
-use crate::channel::Channel;
-use crate::id::Id;
-use crate::keeper_id::KeeperId;
+use crate::digits::{Channel, Id, KeeperId};
+use crate::reply::MOST_ENTRIES;
 use crate::who::Who;
 use crate::word::Word;
 use pad_edge::Wire;
-use pad_text::Name;
+use pad_json::number_from;
 use serde_json::Value;
 use std::alloc::{AllocError, Global};
-
-/// The greatest index and the greatest total of a history.
-const MOST_ENTRIES: u32 = 1_048_576;
 
 /// Whether an element is this string.
 pub(crate) fn is_string(value: &Value, text: &str) -> bool
@@ -39,18 +33,18 @@ pub(crate) fn is_zero(value: &Value) -> bool
     value.as_u64() == Some(0)
 }
 
-/// A number of 32 bits.
-pub(crate) fn number_from(value: &Value) -> Option<u32>
-    ensures some { IfSome result (λ number. view value.now ≡ whole number) }
-    ensures none { IfNone result ((number : ℕ) → number < 2 ^ 32 → view value.now ≢ whole number) }
+/// A number of 64 bits.
+pub(crate) fn moment_from(value: &Value) -> Option<u64>
+    ensures some { IfSome result (λ moment. (view value.now ≡ whole moment) × (moment < 2 ^ 64)) }
+    ensures none { IfNone result ((moment : ℕ) → moment < 2 ^ 64 → view value.now ≢ whole moment) }
 {
-    u32::try_from(value.as_u64()?).ok()
+    value.as_u64()
 }
 
 /// An index or a total.
 pub(crate) fn count_from(value: &Value) -> Option<u32>
-    ensures some { IfSome result (λ count. (view value.now ≡ whole count) × (count ≤ most_entries)) }
-    ensures none { IfNone result ((count : ℕ) → count ≤ most_entries → view value.now ≢ whole count) }
+    ensures some { IfSome result (λ count. (view value.now ≡ whole count) × (count ≤ MOST_ENTRIES)) }
+    ensures none { IfNone result ((count : ℕ) → count ≤ MOST_ENTRIES → view value.now ≢ whole count) }
 {
     number_from(value).filter(|count| *count <= MOST_ENTRIES)
 }
@@ -77,16 +71,6 @@ pub(crate) fn keeper_from(value: &Value) -> Option<KeeperId>
     ensures none { IfNone result ((keeper : List ℕ) → IsDigits 16 keeper → view value.now ≢ string keeper) }
 {
     KeeperId::from_hex(value.as_str()?)
-}
-
-/// A name.
-pub(crate) fn name_from(value: &Value) -> Option<Name>
-    ensures some { IfSome result (λ name. (view value.now ≡ string (encode_lower name.0))
-        × IsDigits 64 (encode_lower name.0)) }
-    ensures none { IfNone result ((name : Name) → IsDigits 64 (encode_lower name.0)
-        → view value.now ≢ string (encode_lower name.0)) }
-{
-    Name::from_hex(value.as_str()?)
 }
 
 /// The identity of a connection or of the keeper.

@@ -2,12 +2,10 @@ ghost use Rattle.std.specs.Prelude.{◌≡◌, IfOk};
 ghost use Rattle.serde_json.specs.View.{view};
 ghost use Rattle.pad_json.specs.Data.{array_of};
 
-use crate::channel::Channel;
-use crate::id::Id;
-use crate::keeper_id::KeeperId;
+use crate::digits::{Channel, Id, KeeperId};
 use crate::reply_writing::{
-    error_value, gone_value, history_end_value, history_unknown_value, history_value, member_value,
-    msg_value,
+    entry_value, error_value, gone_value, history_end_value, history_unknown_value, history_value,
+    member_value, msg_value,
 };
 use crate::who::Who;
 use crate::word::Word;
@@ -15,6 +13,9 @@ use pad_edge::Wire;
 use pad_text::Name;
 use serde_json::{Value, json};
 use std::alloc::{AllocError, Global};
+
+/// The greatest index and the greatest total of a history.
+pub const MOST_ENTRIES: u32 = 1_048_576;
 
 /// What the hub says to a client.
 #[derive(Debug, Drop)]
@@ -35,6 +36,8 @@ pub enum Reply {
     Error(u32, Word, Wire),
     /// An entry of a channel's log: its index, its sender and its content.
     History(KeeperId, Channel, u32, Id, Wire),
+    /// An entry of a channel's log with the moment at which it was stored: its index, the moment, its sender and its content.
+    Entry(KeeperId, Channel, u32, u64, Id, Wire),
     /// The end of a history, and how many entries the log has.
     HistoryEnd(KeeperId, Channel, u32),
     /// No entry of the log has this key.
@@ -71,6 +74,9 @@ impl Reply {
             Reply::Error(seq, word, about) => error_value(alloc, *seq, *word, about),
             Reply::History(keeper, channel, index, sender, content) => history_value(
                 alloc, keeper, channel, *index, sender, content,
+            ),
+            Reply::Entry(keeper, channel, index, moment, sender, content) => entry_value(
+                alloc, keeper, channel, *index, *moment, sender, content,
             ),
             Reply::HistoryEnd(keeper, channel, total) => history_end_value(
                 alloc, keeper, channel, *total,

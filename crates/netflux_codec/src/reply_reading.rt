@@ -8,12 +8,12 @@ ghost use Rattle.netflux_codec.specs.declared.word.Word.{Word};
 ghost use Rattle.netflux_codec.specs.Reply.{HasSmallCounts, IsReply, Replies, reply_elements};
 
 use crate::fields::{
-    channel_from, count_from, id_from, is_string, is_zero, keeper_from, name_from, number_from,
-    who_from, wire_from, word_from,
+    channel_from, count_from, id_from, is_string, is_zero, keeper_from, moment_from, who_from,
+    wire_from, word_from,
 };
 use crate::reply::Reply;
 use crate::reply_refused::ReplyRefused;
-use pad_json::read_array;
+use pad_json::{name_from, number_from, read_array};
 use serde_json::Value;
 use std::alloc::{AllocError, Global};
 
@@ -62,6 +62,9 @@ fn reply_from(alloc: Global, elements: &[Value]) -> Result<Option<Reply>, AllocE
         return Ok(Some(reply));
     }
     if let Some(reply) = history_from(alloc, elements)? {
+        return Ok(Some(reply));
+    }
+    if let Some(reply) = entry_from(alloc, elements)? {
         return Ok(Some(reply));
     }
     if let Some(reply) = history_end_from(elements) {
@@ -233,6 +236,35 @@ fn history_from(alloc: Global, elements: &[Value]) -> Result<Option<Reply>, Allo
     ) {
         (Some(keeper), Some(channel), Some(index), Some(sender), Some(content)) => {
             Ok(Some(Reply::History(keeper, channel, index, sender, content)))
+        }
+        _ => Ok(None),
+    }
+}
+
+/// `[0,keeper,"ENTRY",chan,index,moment,id,content]`
+fn entry_from(alloc: Global, elements: &[Value]) -> Result<Option<Reply>, AllocError>
+    ensures { IfOk result (λ found. MatchOption found
+        ((keeper channel : List ℕ) (index moment : ℕ) (sender content : List ℕ)
+        → IsReply (Reply.Entry keeper channel index moment sender content)
+        → map view elements.now ≢ reply_elements (Reply.Entry keeper channel index moment sender content))
+        (λ reply. (map view elements.now ≡ reply_elements reply) × IsReply reply)) }
+{
+    let [zero, keeper, word, channel, index, moment, sender, content] = elements else {
+        return Ok(None);
+    };
+    if !is_zero(zero) || !is_string(word, "ENTRY") {
+        return Ok(None);
+    }
+    match (
+        keeper_from(keeper),
+        channel_from(channel),
+        count_from(index),
+        moment_from(moment),
+        id_from(sender),
+        wire_from(alloc, content)?,
+    ) {
+        (Some(keeper), Some(channel), Some(index), Some(moment), Some(sender), Some(content)) => {
+            Ok(Some(Reply::Entry(keeper, channel, index, moment, sender, content)))
         }
         _ => Ok(None),
     }

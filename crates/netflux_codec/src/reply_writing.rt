@@ -3,14 +3,14 @@ ghost use Rattle.std.specs.Prelude.{◌≡◌, ◌≤◌, IfOk};
 ghost use Rattle.serde_json.specs.View.{view};
 ghost use Rattle.pad_json.specs.Data.{array_of};
 ghost use Rattle.netflux_codec.specs.declared.reply.Reply.{Reply};
-ghost use Rattle.netflux_codec.specs.Reply.{IsReply, most_entries, reply_elements};
+ghost use Rattle.netflux_codec.specs.declared.reply.TheConstants.{MOST_ENTRIES};
+ghost use Rattle.netflux_codec.specs.Reply.{IsReply, reply_elements};
 
-use crate::channel::Channel;
-use crate::id::Id;
-use crate::keeper_id::KeeperId;
+use crate::digits::{Channel, Id, KeeperId};
 use crate::who::Who;
 use crate::word::Word;
 use pad_edge::Wire;
+use pad_json::name_value;
 use pad_text::Name;
 use serde_json::{Value, json};
 use std::alloc::{AllocError, Global};
@@ -71,11 +71,28 @@ pub(crate) fn history_value(
     sender: &Id,
     content: &Wire,
 ) -> Result<Value, AllocError>
-    requires { index ≤ most_entries }
+    requires { index ≤ MOST_ENTRIES }
     ensures value { IfOk result (λ value. view value ≡ array_of (reply_elements (Reply.History keeper.now channel.now index sender.now content.now))) }
     ensures typed { IfOk result (λ _. IsReply (Reply.History keeper.now channel.now index sender.now content.now)) }
 {
     json!(in alloc; [0, keeper.as_str(), "HISTORY", channel.as_str(), index, sender.as_str(), content.as_str()])
+}
+
+/// `[0,keeper,"ENTRY",chan,index,moment,id,content]`
+pub(crate) fn entry_value(
+    alloc: Global,
+    keeper: &KeeperId,
+    channel: &Channel,
+    index: u32,
+    moment: u64,
+    sender: &Id,
+    content: &Wire,
+) -> Result<Value, AllocError>
+    requires { index ≤ MOST_ENTRIES }
+    ensures value { IfOk result (λ value. view value ≡ array_of (reply_elements (Reply.Entry keeper.now channel.now index moment sender.now content.now))) }
+    ensures typed { IfOk result (λ _. IsReply (Reply.Entry keeper.now channel.now index moment sender.now content.now)) }
+{
+    json!(in alloc; [0, keeper.as_str(), "ENTRY", channel.as_str(), index, moment, sender.as_str(), content.as_str()])
 }
 
 /// `[0,keeper,"HISTORY_END",chan,total]`
@@ -85,7 +102,7 @@ pub(crate) fn history_end_value(
     channel: &Channel,
     total: u32,
 ) -> Result<Value, AllocError>
-    requires { total ≤ most_entries }
+    requires { total ≤ MOST_ENTRIES }
     ensures value { IfOk result (λ value. view value ≡ array_of (reply_elements (Reply.HistoryEnd keeper.now channel.now total))) }
     ensures typed { IfOk result (λ _. IsReply (Reply.HistoryEnd keeper.now channel.now total)) }
 {
@@ -102,6 +119,6 @@ pub(crate) fn history_unknown_value(
     ensures value { IfOk result (λ value. view value ≡ array_of (reply_elements (Reply.HistoryUnknown keeper.now channel.now key.now))) }
     ensures typed { IfOk result (λ _. IsReply (Reply.HistoryUnknown keeper.now channel.now key.now)) }
 {
-    let key = key.hex(alloc)?;
+    let key = name_value(alloc, key)?;
     json!(in alloc; [0, keeper.as_str(), "HISTORY_UNKNOWN", channel.as_str(), key])
 }

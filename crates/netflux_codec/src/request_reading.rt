@@ -8,11 +8,11 @@ ghost use Rattle.netflux_codec.specs.declared.request.Request.{Request};
 ghost use Rattle.netflux_codec.specs.Request.{AreElements, IsRequest, IsSeqOf, Requests, join_elements, leave_elements, msg_elements, ping_elements, reason_elements};
 
 use crate::body::Body;
-use crate::fields::{channel_from, is_string, number_from, wire_from};
+use crate::fields::{channel_from, is_string, wire_from};
 use crate::request::Request;
 use crate::request_refused::RequestRefused;
 use pad_edge::Wire;
-use pad_json::read_array;
+use pad_json::{number_from, read_array};
 use serde_json::Value;
 use std::alloc::{AllocError, Global};
 

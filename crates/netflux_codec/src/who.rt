@@ -1,8 +1,7 @@
 ghost use Rattle.std.specs.Prelude.{◌≡◌};
 ghost use Rattle.netflux_codec.specs.Who.{IsWho, who_digits};
 
-use crate::id::Id;
-use crate::keeper_id::KeeperId;
+use crate::digits::{Id, KeeperId};
 
 /// Who joined a channel.
 #[derive(Clone, Copy, Debug, PartialEq, Eq)]

@@ -11,5 +11,7 @@ returns c (reply.Msg id target content) = let none = rw c.in_default-3.is at c.i
 returns c (reply.Ack seq) = c.in_default-ack_from.ensures.none seq
 returns c (reply.Error seq word about) = let none = rw c.in_default-4.is at c.in_ok-reply-3.ensures in none seq word about
 returns c (reply.History keeper channel index sender content) = let none = rw c.in_default-5.is at c.in_ok-reply-4.ensures in none keeper channel index sender content
+returns c (reply.Entry keeper channel index moment sender content) =
+    let none = rw c.in_default-6.is at c.in_ok-reply-5.ensures in none keeper channel index moment sender content
 returns c (reply.HistoryEnd keeper channel total) = c.in_default-history_end_from.ensures.none keeper channel total
 returns c (reply.HistoryUnknown keeper channel key) = c.in_default-history_unknown_from.ensures.none keeper channel key

@@ -10,17 +10,17 @@ told text found seq same is = let equal : found ≡ seq = cc in subst (IsSeqOf t
 
 pub returns-in_default-clause-seq : goal.returns-in_default-clause-seq
 returns-in_default-clause-seq c seq same =
-    let none = rw c.in_default.is at c.in_ok-elements.ensures in
+    let none = rw c.in_default.is at c.in_ok-elements.ensures.found in
     told c.args.text.now 0 seq same (seq_none c.args.text.now none)
 
 pub returns-clause-invalid : goal.returns-clause-invalid
 returns-clause-invalid c seq same =
-    let elements = rw c.in-Some.is at c.in_ok-elements.ensures in
+    let elements = rw c.in-Some.is at c.in_ok-elements.ensures.found in
     let none = rw c.in-None.is at c.in_ok-request.ensures in
     no_request c.args.text.now c.in-Some.elements.items c.as_slice.result.now c.as_slice.ensures.value elements none
 
 pub returns-clause-seq : goal.returns-clause-seq
 returns-clause-seq c seq same =
-    let elements = rw c.in-Some.is at c.in_ok-elements.ensures in
+    let elements = rw c.in-Some.is at c.in_ok-elements.ensures.found in
     told c.args.text.now c.seq_of.result seq same
     (seq_first c.args.text.now c.in-Some.elements.items c.as_slice-in-None.result.now c.seq_of.result c.as_slice-in-None.ensures.value elements c.seq_of.ensures.given c.seq_of.ensures.absent)
