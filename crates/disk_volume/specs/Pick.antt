@@ -5,11 +5,11 @@ use Rattle.disk_volume.specs.Disk.{File}
 use Rattle.disk_volume.specs.declared.pick.Pick.{Pick}
 use Rattle.disk_volume.specs.declared.pick.Pick.TheVariants.{Old, New, Torn}
 
--- a place in one of these ranges
+-- an offset in one of these ranges
 abbrev pub is_within : List (ℕ × ℕ) → ℕ → Bool
 is_within ranges place = list_any (λ range. nat_le range.0 place && nat_lt place range.1) ranges
 
--- these bytes with one byte at each place in these ranges
+-- these bytes with one byte at each offset in these ranges
 abbrev pub torn : List (ℕ × ℕ) → ℕ → List ℕ → List ℕ
 torn ranges byte bytes = map (λ place. if is_within ranges place then byte else slice_index bytes place) (range_with_len 0 (length bytes))
 

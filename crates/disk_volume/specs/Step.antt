@@ -5,7 +5,7 @@ use Rattle.disk_volume.specs.Pick.{torn}
 
 -- a change of a file
 pub data Step : Type 0 where
-  -- these bytes were written from this place on
+  -- these bytes were written from this offset on
   writes : (at : ℕ) (piece : List ℕ) → Step
   -- it was cut to this length
   cuts : (to : ℕ) → Step

@@ -1,4 +1,4 @@
--- Where a volume in memory stops, and what becomes of its calls.
+-- In which call a volume in memory stops, and what becomes of its calls.
 use Rattle.std.specs.Prelude.{◌≡◌, ◌⊎◌, ℕ, ◌<◌, ◌≤◌, Bool, true, false, List, ◌==◌, if◌then◌else◌}
 use Rattle.pad_edge.specs.Count.{Rose}
 use Rattle.disk_volume.specs.Disk.{File}
@@ -25,7 +25,7 @@ stop_after Unset call = Unset
 stop_after (Set number pick) call = if number == call then Past pick else Set number pick
 stop_after (Past pick) call = Past pick
 
--- what is left of a file: by the pick where the volume has stopped, and else as it reads
+-- what is left of a file: by the pick if the volume has stopped, and else as it reads
 abbrev pub left_by : Stop → File → List ℕ
 left_by Unset f = f.now
 left_by (Set number pick) f = f.now
