@@ -15,7 +15,6 @@ use Rattle.pad_patch.specs.Misfit.{longest_text, Fits}
 use Rattle.pad_message.specs.declared.message.Message.{Message}
 use Rattle.pad_message.specs.Kind.{is_checkpoint}
 use Rattle.pad_message.specs.Message.{name_of}
-use Rattle.pad_message.specs.Adopt.{IsWhole}
 use Rattle.pad_model.specs.declared.base.Base.{Base}
 use Rattle.pad_model.specs.Sound.{interval_of, IsSound}
 use Rattle.pad_model.specs.Path.{last_name, text, interval, since_checkpoint, IsLinkedPath, EachSound, NamesDiffer}

@@ -1,5 +1,5 @@
 -- Truncation: what is chosen through the root is the best where nothing overtook.
-use Rattle.std.proofs.Common.{◌≡◌, ℕ, suc, ◌+◌, List, [], ◌∷◌, ◌++◌, length, Contains, Bool, true, false, drop, refl, sym, ap, ◌∙◌, subst, arith, append_assoc}
+use Rattle.std.proofs.Common.{◌≡◌, ℕ, List, [], ◌∷◌, ◌++◌, length, Contains, Bool, true, false, drop, refl, sym, ap, ◌∙◌, subst, arith, append_assoc}
 use Rattle.std.specs.Prelude.{nat_lt, if◌then◌else◌}
 use Rattle.pad_message.specs.declared.message.Message.{Message}
 use Rattle.pad_message.specs.Kind.{is_checkpoint}
@@ -7,7 +7,7 @@ use Rattle.pad_model.specs.declared.base.Base.{Base}
 use Rattle.pad_model.specs.Path.{IsLinkedPath, IsPath, NamesDiffer}
 use Rattle.pad_model.specs.Best.{IsBetter, IsBest}
 use Rattle.pad_model.specs.Number.{IsNumberOf}
-use Rattle.pad_model.specs.Choice.{to_checkpoint, cut, higher, RunsThrough, Choice, Overtakes, IsNextChoice, IsChoice}
+use Rattle.pad_model.specs.Choice.{to_checkpoint, cut, higher, RunsThrough, Choice, Overtakes, IsChoice}
 use Rattle.pad_model.specs.Laws.{RootOnChosen, NeverWorse, StaysBest, NothingOvertook}
 use Rattle.pad_model.proofs.Members.{contains_more, contains_none}
 use Rattle.pad_model.proofs.Chains.{linked_more, path_more, linked_unique, differ_before}

@@ -1,15 +1,14 @@
 -- There is at most one report, and repeats and order change nothing of what it tells of the best chain.
 use Rattle.std.proofs.Common.{◌≡◌, ◌↔◌, ℕ, ◌+◌, ◌⊎◌, inl, inr, List, [], ◌∷◌, ◌++◌, reverse, Contains, sym, ap, ◌∙◌, subst, append_assoc}
 use Rattle.std.proofs.lemmas.List.{reverse-append, reverse-reverse}
-use Rattle.std.proofs.lemmas.List.Elements.{Contains-append_right, Contains-append_left, Contains-append_cases}
+use Rattle.std.proofs.lemmas.List.Elements.{Contains-append_right, Contains-append_left}
 use Rattle.pad_text.specs.declared.name.Name.{Name}
 use Rattle.pad_message.specs.declared.message.Message.{Message}
 use Rattle.pad_model.specs.declared.base.Base.{Base}
 use Rattle.pad_model.specs.Path.{IsLinked, NamesDiffer}
-use Rattle.pad_model.specs.Best.{IsBest}
 use Rattle.pad_model.specs.Choice.{Choice, IsChoice, IsNextChoice, Overtakes, IsBestThrough}
 use Rattle.pad_model.specs.Count.{IsKnown, IsWaiting, IsKept, AreCounts}
-use Rattle.pad_model.specs.Report.{report_lines, told_of, IsReport}
+use Rattle.pad_model.specs.Report.{report_lines, report_values, IsReport}
 use Rattle.pad_model.specs.Laws.{SameMembers, AtMostOneReport, RepeatChangesNoReport, OrderChangesNoBest}
 use Rattle.pad_model.proofs.Members.{contains_head, contains_more, contains_cases, contains_none, contains_middle}
 use Rattle.pad_model.proofs.Chains.{linked_more, path_more, differ_before}
@@ -111,7 +110,7 @@ one_report b R unreadable bytes other d h g =
     let moved = subst (λ (c : Choice). AreCounts b R c.root h.known h.waiting h.kept) choice h.counts in
     let above = one_number (IsKept b R g.choice.root) moved.above_root g.counts.above_root moved.kept_messages g.counts.kept_messages in
     let kept : h.kept ≡ g.kept = moved.with_root ∙ ap (λ n. n + 1) above ∙ sym g.counts.with_root in
-    h.lines ∙ (λ i. report_lines (told_of b (choice i) (known i) (waiting i) unreadable (kept i))) ∙ sym g.lines
+    h.lines ∙ (λ i. report_lines (report_values b (choice i) (known i) (waiting i) unreadable (kept i))) ∙ sym g.lines
 
 choice_again : (b : Base) (later R : List Message) (m : Message) (c : Choice) → Contains R m → IsChoice b (later ++ R) c → IsChoice b (later ++ m ∷ R) c
 choice_again b [] R m c k h = (c, h, repeat_changes_no_choice b R m c h k)

@@ -8,16 +8,16 @@ use Rattle.pad_model.specs.Path.{IsLinkedPath, IsPath, IsLinked}
 use Rattle.pad_model.specs.Best.{IsBetter}
 use Rattle.pad_model.specs.Number.{IsNumberOf}
 
--- the path up to its last checkpoint, this one included; the base alone where it has none
+-- the path up to its last checkpoint, this one included; the base alone if it has none
 abbrev pub to_checkpoint : List Message → List Message
 to_checkpoint [] = []
 to_checkpoint (message ∷ path) = if is_checkpoint message.kind then message ∷ path else to_checkpoint path
 
--- the cut: the path up to its last but one checkpoint; the base alone where it has fewer than two
+-- the cut: the path up to its last but one checkpoint; the base alone if it has fewer than two
 abbrev pub cut : List Message → List Message
 cut path = to_checkpoint (drop 1 (to_checkpoint path))
 
--- the longer of two paths; the first where they are equally long
+-- the longer of two paths; the first if they are equally long
 abbrev pub higher : List Message → List Message → List Message
 higher path other = if nat_lt (length path) (length other) then other else path
 
@@ -49,9 +49,8 @@ pub record Overtakes (base : Base) (received : List Message) (message : Message)
   pub below : IsBelow base (message ∷ received) choice.root (other ∷ before)
   pub better : IsBetter base (other ∷ before) choice.chosen
 
--- After the messages received the one choice stood, and after one message more the next one stands: its path is the best
--- through the root as it stood, then the root moves up to the cut of that path where that is higher, and those that
--- overtook the path that was chosen before are counted.
+-- The next choice after one message more: its path is the best through the root as it was, then the root moves up to the
+-- cut of that path if that is higher, and the messages that overtook the path chosen before are added.
 pub record IsNextChoice (base : Base) (received : List Message) (message : Message) (choice next : Choice) : Type 0 where
   pub chosen : IsBestThrough base (message ∷ received) choice.root next.chosen
   pub root : next.root ≡ higher choice.root (cut next.chosen)

@@ -43,7 +43,7 @@ OneLinkedHeight =
 abbrev pub RootOnChosen : Type 0
 RootOnChosen = (base : Base) (received : List Message) (choice : Choice) → IsChoice base received choice → RunsThrough choice.root choice.chosen
 
--- the chosen path is the best through the kept root as it stands
+-- the chosen path is the best through the kept root as it is now
 abbrev pub BestThroughItsRoot : Type 0
 BestThroughItsRoot =
     (base : Base) (received : List Message) (choice : Choice) → IsChoice base received choice → IsBestThrough base received choice.root choice.chosen
@@ -63,12 +63,12 @@ abbrev pub NeverWorse : Type 0
 NeverWorse =
     (base : Base) (received : List Message) (message : Message) (choice next : Choice) → IsChoice base received choice → IsNextChoice base received message choice next → ¬ (IsBetter base choice.chosen next.chosen)
 
--- under no clash of names, where the chosen path was the best chain and nothing overtook so far, it is the best chain again
+-- under no clash of names, if the chosen path was the best chain and nothing overtook so far, it is the best chain again
 abbrev pub StaysBest : Type 0
 StaysBest =
     (base : Base) (received : List Message) (message : Message) (choice next : Choice) → NamesDiffer (message ∷ received) → IsChoice base received choice → IsNextChoice base received message choice next → IsBest base received choice.chosen → next.overtaken ≡ 0 → IsBest base (message ∷ received) next.chosen
 
--- under no clash of names, where nothing overtook the chosen path is the best chain of all messages received
+-- under no clash of names, if nothing overtook, the chosen path is the best chain of all messages received
 abbrev pub NothingOvertook : Type 0
 NothingOvertook =
     (base : Base) (received : List Message) (choice : Choice) → NamesDiffer received → IsChoice base received choice → choice.overtaken ≡ 0 → IsBest base received choice.chosen
@@ -89,8 +89,7 @@ RepeatChangesNoChoice =
 
 -- ---- what a chain has to try as a message comes
 
--- What was the best through the root, or a path as good, is the best again where no path with the new message on it is
--- better.
+-- What was the best through the root, or a path as good, is the best again if no path with the new message on it is better.
 abbrev pub OnlyNewPaths : Type 0
 OnlyNewPaths =
     (base : Base) (received root path other : List Message) (message : Message) → IsBestThrough base received root path → IsPath base (message ∷ received) other → RunsThrough root other → ¬ (IsBetter base path other)
@@ -104,7 +103,7 @@ StaysChosen =
     → ((path : List Message) → IsLinkedPath base (message ∷ received) path → RunsThrough choice.root path → IsLinkedPath base received path)
     → IsNumberOf (Overtakes base received message choice) more → IsNextChoice base received message choice (record choice { overtaken = choice.overtaken + more })
 
--- where a message links nothing, nothing overtakes
+-- if a message links nothing, nothing overtakes
 abbrev pub NothingLinks : Type 0
 NothingLinks =
     (base : Base) (received : List Message) (message : Message) (choice : Choice) → ((path : List Message) → IsLinkedPath base (message ∷ received) path → IsLinkedPath base received path)
@@ -141,7 +140,7 @@ RepeatChangesNoReport =
     (base : Base) (before after : List Message) (message : Message) (unreadable : ℕ) (bytes : List ℕ) → NamesDiffer (before ++ after) → Contains before message
     → IsReport base (before ++ after) unreadable bytes ↔ IsReport base (before ++ message ∷ after) unreadable bytes
 
--- Under no clash of names, where nothing overtook, reports of lists with the same members tell the same chosen path (so
+-- Under no clash of names, if nothing overtook, reports of lists with the same members have the same chosen path (so
 -- the same best, height, hash, units and text), and as many known names and waiting messages.
 abbrev pub OrderChangesNoBest : Type 0
 OrderChangesNoBest =

@@ -1,7 +1,7 @@
 -- How many different things there are.
 use Rattle.std.specs.Prelude.{◌≡◌, ◌↔◌, ⊤, ℕ, List, [], ◌∷◌, length, Contains}
 
--- nothing stands twice in the list
+-- nothing is in the list twice
 abbrev pub NoRepeat : {A : Type 0} → List A → Type 0
 NoRepeat [] = ⊤
 NoRepeat (x ∷ xs) = ¬ (Contains xs x) × NoRepeat xs

@@ -19,12 +19,12 @@ abbrev pub text : Base → List Message → List ℕ
 text base [] = base.text
 text base (message ∷ path) = text_after message.patch (text base path)
 
--- the interval in force after a path: that of its last checkpoint; the base's where it has none
+-- the interval in force after a path: that of its last checkpoint; the base's if it has none
 abbrev pub interval : Base → List Message → ℕ
 interval base [] = base.interval
 interval base (message ∷ path) = interval_of message.kind (interval base path)
 
--- how many messages come after the last checkpoint of a path; all where it has none
+-- how many messages come after the last checkpoint of a path; all of them if it has none
 abbrev pub since_checkpoint : List Message → ℕ
 since_checkpoint [] = 0
 since_checkpoint (message ∷ path) = if is_checkpoint message.kind then 0 else since_checkpoint path + 1

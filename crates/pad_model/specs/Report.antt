@@ -12,9 +12,9 @@ use Rattle.pad_model.specs.Path.{last_name, text}
 use Rattle.pad_model.specs.Choice.{Choice, IsChoice}
 use Rattle.pad_model.specs.Count.{AreCounts}
 
--- a line: a word, a space, what it tells, and the line's end
+-- a line: a word, a space, a value, and the line's end
 abbrev pub line : List ℕ → List ℕ → List ℕ
-line word told = word ++ codes " " ++ told ++ codes "\n"
+line word value = word ++ codes " " ++ value ++ codes "\n"
 
 -- the 64 digits of a name
 abbrev pub digits : Name → List ℕ
@@ -28,8 +28,8 @@ place_text name height = digits name ++ codes " " ++ decimal height
 abbrev pub json_string : List ℕ → List ℕ
 json_string units = compact_text (string (utf8 units))
 
--- what a report tells
-pub record Told : Type 0 where
+-- the values of a report
+pub record ReportValues : Type 0 where
   -- the chosen path: its last name, its height, and the text after it
   pub best : Name
   pub height : ℕ
@@ -45,23 +45,23 @@ pub record Told : Type 0 where
   pub overtaken : ℕ
 
 -- the eleven lines
-abbrev pub report_lines : Told → List ℕ
-report_lines told =
-    line (codes "best") (digits told.best)
-    ++ line (codes "height") (decimal told.height)
-    ++ line (codes "hash") (digits (document_hash told.units))
-    ++ line (codes "units") (decimal (length told.units))
-    ++ line (codes "known") (decimal told.known)
-    ++ line (codes "waiting") (decimal told.waiting)
-    ++ line (codes "unreadable") (decimal told.unreadable)
-    ++ line (codes "root") (place_text told.root told.root_height)
-    ++ line (codes "kept") (decimal told.kept)
-    ++ line (codes "overtaken") (decimal told.overtaken)
-    ++ line (codes "text") (json_string told.units)
+abbrev pub report_lines : ReportValues → List ℕ
+report_lines values =
+    line (codes "best") (digits values.best)
+    ++ line (codes "height") (decimal values.height)
+    ++ line (codes "hash") (digits (document_hash values.units))
+    ++ line (codes "units") (decimal (length values.units))
+    ++ line (codes "known") (decimal values.known)
+    ++ line (codes "waiting") (decimal values.waiting)
+    ++ line (codes "unreadable") (decimal values.unreadable)
+    ++ line (codes "root") (place_text values.root values.root_height)
+    ++ line (codes "kept") (decimal values.kept)
+    ++ line (codes "overtaken") (decimal values.overtaken)
+    ++ line (codes "text") (json_string values.units)
 
--- what a report tells of a choice and counts
-abbrev pub told_of : Base → Choice → (known waiting unreadable kept : ℕ) → Told
-told_of base choice known waiting unreadable kept = record {
+-- the values of a report, of a choice and counts
+abbrev pub report_values : Base → Choice → (known waiting unreadable kept : ℕ) → ReportValues
+report_values base choice known waiting unreadable kept = record {
   best = last_name base choice.chosen;
   height = length choice.chosen;
   units = text base choice.chosen;
@@ -82,4 +82,4 @@ pub record IsReport (base : Base) (received : List Message) (unreadable : ℕ) (
   pub waiting : ℕ
   pub kept : ℕ
   pub counts : AreCounts base received choice.root known waiting kept
-  pub lines : bytes ≡ report_lines (told_of base choice known waiting unreadable kept)
+  pub lines : bytes ≡ report_lines (report_values base choice known waiting unreadable kept)

@@ -12,7 +12,7 @@ abbrev pub interval_of : Kind → ℕ → ℕ
 interval_of kind.Patch before = before
 interval_of (kind.Checkpoint interval) before = interval
 
--- The patch fits the text. A checkpoint stands at a multiple of the interval in force, counted from the last checkpoint
+-- The patch fits the text. A checkpoint comes at a multiple of the interval in force, counted from the last checkpoint
 -- below it or from the base, and spells the whole text once more.
 pub record IsSound (message : Message) (distance interval : ℕ) (text : List ℕ) : Type 0 where
   pub fits : Fits message.patch text

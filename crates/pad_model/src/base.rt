@@ -2,7 +2,7 @@ use pad_message::USUAL_INTERVAL;
 use pad_text::{Name, Text, texts_are_kept_by_cuts};
 use std::alloc::Global;
 
-/// What a chain begins at, at height 0. No message stands for it.
+/// What a chain begins at, at height 0. It is no message of the chain.
 #[derive(Debug, Drop)]
 pub struct Base {
     /// The name that the first message of a chain gives as its parent.

@@ -27,7 +27,7 @@ pub fn root_on_chosen()
     ensures { RootOnChosen }
 {}
 
-/// The chosen path is the best through the kept root as it stands.
+/// The chosen path is the best through the kept root as it is now.
 pub fn best_through_its_root()
     ensures { BestThroughItsRoot }
 {}
@@ -107,7 +107,7 @@ pub fn repeat_changes_no_report()
     ensures { RepeatChangesNoReport }
 {}
 
-/// If nothing overtook, reports of the same messages in any order tell the same best chain, known and waiting.
+/// If nothing overtook, reports of the same messages in any order have the same best chain, known and waiting.
 pub fn order_changes_no_best()
     ensures { OrderChangesNoBest }
 {}

@@ -1,4 +1,13 @@
-//! The best chain of messages received, what is kept of it, and what a report tells: definitions and their laws.
+//! What has to be believed of a pad: its best chain, what is kept of it as messages come, adoption, and the report.
+//!
+//! The crate has definitions (`specs/`), laws over them, and the type of a base. It computes nothing; the contract of a
+//! law's function is the law, and its body is empty. A program that finds the best chain has these definitions in its
+//! contract, as `pad_plain` has.
+//!
+//! ```text
+//! let base = Base::first(alloc);   // sixty-four zeros, the empty text, the interval 50
+//! nothing_overtook();              // a proof that needs a law calls it
+//! ```
 #![tactic(auto)]
 
 mod base;

@@ -13,7 +13,7 @@ use Rattle.pad_plain.specs.declared.candidate.Candidate.{Candidate}
 use Rattle.pad_plain.specs.declared.choice.Chosen.{Chosen}
 use Rattle.pad_plain.specs.declared.path.Tip.{Tip}
 use Rattle.pad_plain.specs.Tip.{IsTipOf}
-use Rattle.pad_plain.specs.Inside.Candidate.{IsToldBetter, names_of}
+use Rattle.pad_plain.specs.Inside.Candidate.{IsBetterThanTip, names_of}
 use Rattle.pad_plain.specs.Inside.Links.{IsCandidate, AreLinkedOf}
 use Rattle.pad_plain.specs.Inside.Through.{IsRoot, IsThroughTo}
 use Rattle.pad_plain.specs.Inside.Chosen.{IsChosenAs}
@@ -37,11 +37,11 @@ module _ (b : Base) (R : List Message) (d : NamesDiffer R) (cand : Candidate) (k
   high : (q : List Message) → IsLinkedPath b R (x ∷ q) → cand.height.0 ≡ length (x ∷ q)
   high q h = let same : k.last ∷ k.before ≡ x ∷ q = told_path b R cand d k x q named h in omega (arith, k.high, ap length same)
 
-  told_better : (q chosen : List Message) (tip : Tip) → IsLinkedPath b R (x ∷ q) → IsTipOf b chosen tip → IsBetter b (x ∷ q) chosen → IsToldBetter cand tip
+  told_better : (q chosen : List Message) (tip : Tip) → IsLinkedPath b R (x ∷ q) → IsTipOf b chosen tip → IsBetter b (x ∷ q) chosen → IsBetterThanTip cand tip
   told_better q chosen tip h t (inl l) = inl (omega (arith, l, high q h, t.high))
   told_better q chosen tip h t (inr (e, l)) = inr (omega (arith, e, high q h, t.high), subst (λ n. NameLess n tip.name) (sym named) (subst (NameLess (name_of x)) (sym t.named) l))
 
-  really_better : (q chosen : List Message) (tip : Tip) → IsLinkedPath b R (x ∷ q) → IsTipOf b chosen tip → IsToldBetter cand tip → IsBetter b (x ∷ q) chosen
+  really_better : (q chosen : List Message) (tip : Tip) → IsLinkedPath b R (x ∷ q) → IsTipOf b chosen tip → IsBetterThanTip cand tip → IsBetter b (x ∷ q) chosen
   really_better q chosen tip h t (inl l) = inl (omega (arith, l, high q h, t.high))
   really_better q chosen tip h t (inr (e, l)) = inr (omega (arith, e, high q h, t.high), subst (NameLess (name_of x)) t.named (subst (λ n. NameLess n tip.name) named l))
 
@@ -78,10 +78,10 @@ module _ (b : Base) (R S : List Message) (m : Message) (whole : R ≡ S ++ m ∷
           let same : pk.last ≡ x = d pk.last x (from_old pk.last pk.linked.0.member) (own_path b R d cand k x at_x).0.member (sym pk.named ∙ e ∙ named b R d cand k x at_x) in
           subst (IsLinked b S) same (pk.before, pk.linked)
 
-  pub not_better : (cand : Candidate) → IsCandidate b R cand → ¬ (IsToldBetter cand before.path.tip) → (answer : Bool) → answer ≡ false → IsSaidOf R (Overtakes b S m c) cand answer
+  pub not_better : (cand : Candidate) → IsCandidate b R cand → ¬ (IsBetterThanTip cand before.path.tip) → (answer : Bool) → answer ≡ false → IsSaidOf R (Overtakes b S m c) cand answer
   not_better cand k n answer e x at_x = subst (λ t. MatchBool t (Overtakes b S m c x) (¬ (Overtakes b S m c x))) (sym e) (λ o. n (told_better b R d cand k x at_x o.before c.chosen before.path.tip (in_all x o) is.tip o.better))
 
-  pub says_overtakes : {A : Type 0} (cand : Candidate) → IsCandidate b R cand → (past : List Candidate) → AreLinkedOf b S past → ¬ (Contains (names_of past) cand.name) → IsToldBetter cand before.path.tip → (found : Option A) → IsThroughTo b R c.root cand.place found → (answer : Bool) → is_some found ≡ not answer → IsSaidOf R (Overtakes b S m c) cand answer
+  pub says_overtakes : {A : Type 0} (cand : Candidate) → IsCandidate b R cand → (past : List Candidate) → AreLinkedOf b S past → ¬ (Contains (names_of past) cand.name) → IsBetterThanTip cand before.path.tip → (found : Option A) → IsThroughTo b R c.root cand.place found → (answer : Bool) → is_some found ≡ not answer → IsSaidOf R (Overtakes b S m c) cand answer
   says_overtakes {A = A} cand k past linked apart better found through answer e x at_x =
       subst (λ t. MatchBool t (Overtakes b S m c x) (¬ (Overtakes b S m c x))) (sym (none_told found answer e)) (go found (λ q. through x q at_x))
     where

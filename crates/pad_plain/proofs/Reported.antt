@@ -4,9 +4,9 @@ use Rattle.pad_message.specs.declared.message.Message.{Message}
 use Rattle.pad_model.specs.declared.base.Base.{Base}
 use Rattle.pad_model.specs.Report.{report_lines, IsReport}
 use Rattle.pad_plain.specs.declared.summary.Summary.{Summary}
-use Rattle.pad_plain.specs.Summary.{IsSummary, told_by}
+use Rattle.pad_plain.specs.Summary.{IsSummary, summary_values}
 
-pub reported : (b : Base) (R : List Message) (unreadable : ℕ) (s : Summary) (bytes : List ℕ) → IsSummary b R s → bytes ≡ report_lines (told_by s unreadable) → IsReport b R unreadable bytes
+pub reported : (b : Base) (R : List Message) (unreadable : ℕ) (s : Summary) (bytes : List ℕ) → IsSummary b R s → bytes ≡ report_lines (summary_values s unreadable) → IsReport b R unreadable bytes
 reported b R unreadable s bytes is e = record {
   choice = is.choice;
   is_choice = is.is_choice;

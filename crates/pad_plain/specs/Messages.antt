@@ -8,7 +8,7 @@ use Rattle.pad_message.specs.Message.{name_of}
 abbrev pub IsNewAt : List Message → ℕ → Name → Type 0
 IsNewAt received place name = (earlier : ℕ) (other : Message) → earlier < place → slice_get received earlier ≡ Some other → name_of other ≢ name
 
--- the first message with this name stands at the place, or none was received
+-- the first message with this name is at the place, or none was received
 abbrev pub IsPlaceOf : List Message → Name → Option ℕ → Type 0
 IsPlaceOf received name found =
     MatchOption found ((message : Message) → Contains received message → name_of message ≢ name)

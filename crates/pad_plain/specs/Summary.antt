@@ -5,11 +5,11 @@ use Rattle.pad_model.specs.declared.base.Base.{Base}
 use Rattle.pad_model.specs.Path.{text}
 use Rattle.pad_model.specs.Choice.{Choice, IsChoice}
 use Rattle.pad_model.specs.Count.{AreCounts}
-use Rattle.pad_model.specs.Report.{Told}
+use Rattle.pad_model.specs.Report.{ReportValues}
 use Rattle.pad_plain.specs.declared.summary.Summary.{Summary}
 use Rattle.pad_plain.specs.Tip.{IsTipOf}
 
--- it tells the choice after the messages, in the order in which they came, and counts the names and messages
+-- it has the choice after the messages, in the order in which they came, and the counts of names and messages
 pub record IsSummary (base : Base) (received : List Message) (summary : Summary) : Type 0 where
   pub choice : Choice
   pub is_choice : IsChoice base (reverse received) choice
@@ -19,9 +19,9 @@ pub record IsSummary (base : Base) (received : List Message) (summary : Summary)
   pub overtook : summary.overtaken ≡ choice.overtaken
   pub counts : AreCounts base received choice.root summary.known summary.waiting summary.kept
 
--- what a report tells that is made of a summary
-abbrev pub told_by : Summary → ℕ → Told
-told_by summary unreadable = record {
+-- the values of a report, of a summary
+abbrev pub summary_values : Summary → ℕ → ReportValues
+summary_values summary unreadable = record {
   best = summary.best.name;
   height = summary.best.height;
   units = summary.text;

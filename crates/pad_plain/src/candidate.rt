@@ -2,7 +2,7 @@
 
 ghost use Rattle.std.specs.Prelude.{◌≡◌, ◌↔◌, ◌<◌, ◌⊎◌, IsTrue, MatchBool, Contains, map, length};
 ghost use Rattle.pad_text.specs.Name.{NameLess};
-ghost use Rattle.pad_plain.specs.Inside.Candidate.{IsToldBetter, names_of};
+ghost use Rattle.pad_plain.specs.Inside.Candidate.{IsBetterThanTip, names_of};
 
 use crate::path::Tip;
 use pad_text::Name;
@@ -21,7 +21,7 @@ pub(crate) struct Candidate {
 
 /// Whether the candidate is longer than the path with this end, or equally long with a lesser name.
 pub(crate) fn is_better(candidate: &Candidate, chosen: &Tip) -> bool
-    ensures { IsTrue result ↔ IsToldBetter candidate.now chosen.now }
+    ensures { IsTrue result ↔ IsBetterThanTip candidate.now chosen.now }
 {
     let height = candidate.height.0;
     if height != chosen.height {

@@ -12,7 +12,7 @@ use pad_message::Message;
 use pad_model::Base;
 use pad_text::Name;
 
-/// How many places stand before the next checkpoint of a path, after so many of them. All places if there is none.
+/// How many places come before the next checkpoint of a path, from number `after` on. All places if there is none.
 fn before_checkpoint(received: &[Message], places: &[usize], after: usize) -> usize
     requires { All (λ place. place < length received.now) places.now }
     ensures within { result ≤ length places.now }

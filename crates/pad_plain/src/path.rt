@@ -1,6 +1,6 @@
 use pad_text::Name;
 
-/// The end of a path, by what a report tells of it.
+/// The end of a path, as a report names it.
 #[derive(Clone, Copy, Debug, PartialEq, Eq)]
 pub struct Tip {
     /// The name of the last message, or the base's.

@@ -1,4 +1,4 @@
-//! What a report tells of the messages received.
+//! What a report has of the messages received.
 
 ghost use Rattle.std.specs.Prelude.{IfOk};
 ghost use Rattle.pad_model.specs.Path.{NamesDiffer};

@@ -3,7 +3,7 @@
 ghost use Rattle.std.specs.Prelude.{◌≡◌, ◌++◌, decimal, IfOk, string_bytes};
 ghost use Rattle.pad_model.specs.Path.{NamesDiffer};
 ghost use Rattle.pad_model.specs.Report.{line, digits, place_text, json_string, report_lines, IsReport};
-ghost use Rattle.pad_plain.specs.Summary.{told_by};
+ghost use Rattle.pad_plain.specs.Summary.{summary_values};
 
 use crate::messages::Messages;
 use crate::summary::Summary;
@@ -12,21 +12,21 @@ use pad_text::{Name, Text};
 use serde_json::Value;
 use std::alloc::{AllocError, Global};
 
-/// Adds a line: a word, a space, what it tells, and the line's end.
+/// Adds a line: a word, a space, a value, and the line's end.
 fn push_line(report: &mut String, word: &str, told: &str) -> Result<(), AllocError>
     ensures { IfOk result (λ _. string_bytes report.new ≡ string_bytes report.old ++ line word.now told.now) }
 {
     writeln!(report, "{word} {told}")
 }
 
-/// Adds a line that tells a number.
+/// Adds a line with a number.
 fn push_count(report: &mut String, word: &str, count: u64) -> Result<(), AllocError>
     ensures { IfOk result (λ _. string_bytes report.new ≡ string_bytes report.old ++ line word.now (decimal count)) }
 {
     writeln!(report, "{word} {count}")
 }
 
-/// Adds a line that tells a name.
+/// Adds a line with a name.
 fn push_name(alloc: Global, report: &mut String, word: &str, name: &Name) -> Result<(), AllocError>
     ensures { IfOk result (λ _. string_bytes report.new ≡ string_bytes report.old ++ line word.now (digits name.now)) }
 {
@@ -34,7 +34,7 @@ fn push_name(alloc: Global, report: &mut String, word: &str, name: &Name) -> Res
     push_line(report, word, &told)
 }
 
-/// Adds a line that tells a name and its height.
+/// Adds a line with a name and its height.
 fn push_place(
     alloc: Global,
     report: &mut String,
@@ -48,7 +48,7 @@ fn push_place(
     writeln!(report, "{word} {told} {height}")
 }
 
-/// Adds a line that tells a text as a JSON string.
+/// Adds a line with a text as a JSON string.
 fn push_text(alloc: Global, report: &mut String, word: &str, text: &Text) -> Result<(), AllocError>
     ensures { IfOk result (λ _. string_bytes report.new ≡ string_bytes report.old ++ line word.now (json_string text.now)) }
 {
@@ -66,7 +66,7 @@ fn quoted(alloc: Global, text: &Text) -> Result<String, AllocError>
 
 /// The lines of a report.
 fn lines(alloc: Global, summary: &Summary, unreadable: u64) -> Result<String, AllocError>
-    ensures { IfOk result (λ lines. string_bytes lines ≡ report_lines (told_by summary.now unreadable)) }
+    ensures { IfOk result (λ lines. string_bytes lines ≡ report_lines (summary_values summary.now unreadable)) }
 {
     let best = &summary.best;
     let root = &summary.root;

@@ -7,7 +7,7 @@ use Rattle.pad_plain.specs.declared.choice.Chosen.{Chosen}
 use Rattle.pad_plain.specs.Tip.{IsTipOf}
 use Rattle.pad_plain.specs.Inside.Walk.{messages_at}
 
--- it tells this choice
+-- it is this choice
 pub record IsChosenAs (base : Base) (received : List Message) (chosen : Chosen) (choice : Choice) : Type 0 where
   pub is_choice : IsChoice base (reverse received) choice
   pub path : messages_at received chosen.path.places.items ≡ choice.chosen
@@ -15,7 +15,7 @@ pub record IsChosenAs (base : Base) (received : List Message) (chosen : Chosen) 
   pub root_tip : IsTipOf base choice.root chosen.root
   pub overtook : chosen.overtaken ≡ choice.overtaken
 
--- it tells the choice after the messages
+-- it is the choice after the messages
 abbrev pub IsChosen : Base → List Message → Chosen → Type 0
 IsChosen base received chosen = (choice : Choice) × IsChosenAs base received chosen choice
 

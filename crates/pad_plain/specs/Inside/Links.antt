@@ -10,7 +10,7 @@ use Rattle.pad_plain.specs.declared.candidate.Candidate.{Candidate}
 use Rattle.pad_plain.specs.declared.links.Links.{Links}
 use Rattle.pad_plain.specs.Inside.Candidate.{names_of}
 
--- it tells length, last name and last place of a linked path
+-- it has the length, the last name and the last place of a linked path
 pub record IsCandidate (base : Base) (received : List Message) (candidate : Candidate) : Type 0 where
   pub last : Message
   pub before : List Message
@@ -24,7 +24,7 @@ abbrev pub HasEveryLinked : Base → List Message → List Candidate → Type 0
 HasEveryLinked base received candidates =
     (message : Message) → IsLinked base received message → (candidate : Candidate) × Contains candidates candidate × (candidate.name ≡ name_of message)
 
--- they tell the linked paths of these messages
+-- they are the linked paths of these messages
 abbrev pub AreLinkedOf : Base → List Message → List Candidate → Type 0
 AreLinkedOf base received candidates = All (IsCandidate base received) candidates × HasEveryLinked base received candidates
 

@@ -15,7 +15,7 @@ pub record IsRoot (base : Base) (received : List Message) (root : Tip) (path : L
   pub linked : IsLinkedPath base received path
   pub tip : IsTipOf base path root
 
--- a linked path to the message at the place runs through the root where something was found
+-- a linked path to the message at the place runs through the root if something was found, and else does not
 abbrev pub IsThroughTo : {A : Type 0} → Base → List Message → List Message → ℕ → Option A → Type 0
 IsThroughTo base received root place found =
     (message : Message) (before : List Message) → slice_get received place ≡ Some message → IsLinkedPath base received (message ∷ before)
@@ -36,13 +36,13 @@ NoPathThrough base received root place =
 abbrev pub OnlyTheBase : Base → List Message → List Message → Type 0
 OnlyTheBase base received root = (message : Message) (before : List Message) → IsPath base received (message ∷ before) → ¬ (RunsThrough root (message ∷ before))
 
--- it tells a path through the root
+-- it is a path through the root
 pub record IsPathThrough (base : Base) (received root : List Message) (path : Path) : Type 0 where
   pub is_path : IsPath base received (messages_at received path.places.items)
   pub through : RunsThrough root (messages_at received path.places.items)
   pub tip : IsTipOf base (messages_at received path.places.items) path.tip
 
--- it tells the best path through the root
+-- it is the best path through the root
 pub record IsBestFound (base : Base) (received root : List Message) (path : Path) : Type 0 where
   pub best : IsBestThrough base received root (messages_at received path.places.items)
   pub tip : IsTipOf base (messages_at received path.places.items) path.tip

@@ -10,7 +10,7 @@ use Rattle.pad_model.specs.Path.{IsLinkedPath}
 abbrev pub messages_at : List Message → List ℕ → List Message
 messages_at received places = filter_map (slice_get received) places
 
--- the place of the message's parent; nothing where that is the base or was not received
+-- the place of the message's parent; nothing if that is the base or was not received
 abbrev pub IsParentPlace : Base → List Message → Message → Option ℕ → Type 0
 IsParentPlace base received message found =
     MatchOption found (message.parent ≢ base.name → (other : Message) → Contains received other → name_of other ≢ message.parent)
