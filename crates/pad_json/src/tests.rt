@@ -1,5 +1,6 @@
 use super::{
-    arrays_have_one_list, compact_texts_spell, read_array, read_plain, texts_spell_one_value,
+    arrays_have_one_list, compact_texts_spell, name_from, name_value, number_from, read_array,
+    read_plain, texts_spell_one_value,
 };
 use std::test::Fail;
 
@@ -67,4 +68,35 @@ fn laws_are_called() {
     compact_texts_spell();
     texts_spell_one_value();
     arrays_have_one_list();
+}
+
+#[test]
+fn values_are_numbers_and_names(rt: HostRuntime) -> Result<(), Fail> {
+    let alloc = rt.alloc();
+    for (text, want) in [
+        ("0", Some(0)),
+        ("4294967295", Some(4_294_967_295)),
+        ("4294967296", None),
+        ("\"7\"", None),
+        ("[7]", None),
+    ] {
+        let value = read_plain(alloc, text)?.expect(&rt, "a value");
+        assert_eq!(rt; number_from(&value), want, "at {text}");
+    }
+    let digits = "ba7816bf8f01cfea414140de5dae2223b00361a396177a9cb410ff61f20015ad";
+    for (text, want) in [
+        (format!(in alloc; "\"{digits}\"")?, true),
+        (format!(in alloc; "\"{digits}0\"")?, false),
+        (format!(in alloc; "\"BA{}\"", digits.get(2..).unwrap_or(""))?, false),
+        (String::from_str(alloc, "7")?, false),
+    ] {
+        let value = read_plain(alloc, text.as_str())?.expect(&rt, "a value");
+        let name = name_from(&value);
+        assert_eq!(rt; name.is_some(), want, "at {text}");
+        if let Some(name) = name {
+            let again = name_value(alloc, &name)?.to_string(alloc)?;
+            assert_eq!(rt; again.as_str(), text.as_str());
+        }
+    }
+    Ok(())
 }

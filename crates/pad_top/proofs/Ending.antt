@@ -11,12 +11,14 @@ use Rattle.pad_top.specs.declared.refused.ReplayRefused.{ReplayRefused}
 use Rattle.pad_top.specs.declared.refused.ReplayRefused.TheVariants as refused
 use Rattle.pad_top.specs.declared.status.Status.{Status}
 use Rattle.pad_top.specs.declared.status.Status.TheVariants as status
-use Rattle.pad_top.specs.Input.{most_bytes, IsToldAs}
+use Rattle.pad_top.specs.Input.{most_bytes}
+use Rattle.pad_top.specs.Inside.Told.{IsToldAs}
 use Rattle.pad_top.specs.Line.{lines_of}
 use Rattle.pad_top.specs.Received.{IsReceived, HasFewNames}
-use Rattle.pad_top.specs.Refusal.{IsReplayRefusal, status_of}
+use Rattle.pad_top.specs.Inside.Refusal.{IsReplayRefusal, status_of}
 use Rattle.pad_top.specs.Replay.{IsReplayed}
-use Rattle.pad_top.specs.Run.{Ends, IsCutShort, IsEnd}
+use Rattle.pad_top.specs.Run.{Ends, IsCutShort}
+use Rattle.pad_top.specs.Inside.Ending.{IsEnd}
 use Rattle.pad_top.specs.Status.{status_line}
 use Rattle.pad_top.specs.Words.{IsReplay}
 

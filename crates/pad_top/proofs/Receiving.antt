@@ -15,7 +15,7 @@ use Rattle.pad_model.specs.Count.{IsKnown}
 use Rattle.pad_plain.specs.Messages.{IsPlaceOf}
 use Rattle.pad_model.proofs.CallerLemmas.{contains_head, contains_more, contains_none, distinct_short}
 use Rattle.pad_top.specs.Received.{most_names, HasFewNames, IsOneTooMany}
-use Rattle.pad_top.specs.Progress.{Progress, IsInside, IsFull, HasRoom, TestsRoom}
+use Rattle.pad_top.specs.Inside.Progress.{Progress, IsInside, IsFull, HasRoom, TestsRoom}
 
 -- the report of what was received is one from the first base on
 pub report_from_first : (base : Base) (messages : List Message) (unreadable : ℕ) (progress : Progress) (text : List ℕ) → base ≡ first_base → record { messages = messages; unreadable = unreadable } ≡ progress

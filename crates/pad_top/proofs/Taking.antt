@@ -7,7 +7,7 @@ use Rattle.pad_top.specs.declared.refused.ReplayRefused.{ReplayRefused}
 use Rattle.pad_top.specs.declared.refused.ReplayRefused.TheVariants as refused
 use Rattle.pad_top.specs.Line.{lines_of}
 use Rattle.pad_top.specs.Received.{LineSpells, ReadsAs, IsReceived, HasFewNames, Reaches}
-use Rattle.pad_top.specs.Progress.{Progress, Receives, progress_after, IsMessageRefusal, IsLineRefusal, IsLinesRefusal}
+use Rattle.pad_top.specs.Inside.Progress.{Progress, Receives, progress_after, IsMessageRefusal, IsLineRefusal, IsLinesRefusal}
 
 -- the lines of a text before the rest of it are received
 pub record IsSoFar (text rest : List ℕ) (progress : Progress) : Type 0 where

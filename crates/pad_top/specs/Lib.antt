@@ -1,10 +1,9 @@
 pub mod Input
+pub mod Inside
 pub mod Laws
 pub mod Line
 pub mod Output
-pub mod Progress
 pub mod Received
-pub mod Refusal
 pub mod Replay
 pub mod Run
 pub mod Status

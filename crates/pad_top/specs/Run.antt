@@ -1,9 +1,8 @@
 -- How a run ends.
-use Rattle.std.specs.Prelude.{◌≡◌, ℕ, ◌⊎◌, List, [], Option, IfSome}
-use Rattle.std.specs.Io.KnownBytes.{Appends}
+use Rattle.std.specs.Prelude.{◌≡◌, ℕ, List, [], Option, IfSome}
 use Rattle.pad_top.specs.declared.status.Status.{Status}
 use Rattle.pad_top.specs.declared.status.Status.TheVariants as status
-use Rattle.pad_top.specs.Output.{AppendsPart, WritesPart}
+use Rattle.pad_top.specs.Output.{WritesPart}
 use Rattle.pad_top.specs.Replay.{IsReplayed, IsPastLimit}
 use Rattle.pad_top.specs.Status.{status_line}
 use Rattle.pad_top.specs.Words.{IsReplay}
@@ -21,7 +20,3 @@ Ends words input read_failed status.NoMemory output = IsReplay words × (output 
 -- a run that a failed write stopped wrote a part from the front of what it would have written
 abbrev pub IsCutShort : List (List ℕ) → Option (List ℕ) → Type 0 → Option (List ℕ) → Option (List ℕ) → Type 0
 IsCutShort words input read_failed old new = (status : Status) × WritesPart (Ends words input read_failed status) old new
-
--- a text was written to its end, and the status is the one wanted; or a write failed
-abbrev pub IsEnd : Option (List ℕ) → Option (List ℕ) → Type 0 → List ℕ → Status → Status → Type 0
-IsEnd old new write_failed text wanted result = ((result ≡ wanted) × Appends old new text) ⊎ ((result ≡ status.WriteFault) × write_failed × AppendsPart old new text)

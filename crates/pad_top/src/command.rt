@@ -3,7 +3,8 @@ ghost use Rattle.std.specs.Io.KnownBytes.{IsAtEnd};
 ghost use Rattle.pad_edge.specs.Count.{Rose};
 ghost use Rattle.pad_top.specs.Output.{Writes};
 ghost use Rattle.pad_top.specs.Replay.{IsReplayed, IsPastLimit};
-ghost use Rattle.pad_top.specs.Run.{Ends, IsCutShort, IsEnd};
+ghost use Rattle.pad_top.specs.Run.{Ends, IsCutShort};
+ghost use Rattle.pad_top.specs.Inside.Ending.{IsEnd};
 ghost use Rattle.pad_top.specs.Words.{IsReplay};
 
 use crate::output::write_all;

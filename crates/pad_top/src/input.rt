@@ -1,8 +1,9 @@
 ghost use Rattle.std.specs.Prelude.{◌≡◌, ◌<◌, ◌≤◌, vec_len, Err, IfOk, IfErr, OnOk};
 ghost use Rattle.std.specs.Io.KnownBytes.{IsAtEnd};
 ghost use Rattle.pad_edge.specs.Count.{Rose};
-ghost use Rattle.pad_top.specs.Input.{most_bytes, IsToldAs};
-ghost use Rattle.pad_top.specs.Refusal.{IsReadRefusal};
+ghost use Rattle.pad_top.specs.Input.{most_bytes};
+ghost use Rattle.pad_top.specs.Inside.Told.{IsToldAs};
+ghost use Rattle.pad_top.specs.Inside.Refusal.{IsReadRefusal};
 
 use crate::refused::ReplayRefused;
 use pad_edge::Source;

@@ -1,6 +1,6 @@
 ghost use Rattle.std.specs.Prelude.{◌≡◌, Ok, None, IfOk};
 ghost use Rattle.pad_top.specs.Received.{ReadsAs};
-ghost use Rattle.pad_top.specs.Progress.{IsRefusedAtOnce};
+ghost use Rattle.pad_top.specs.Inside.Progress.{IsRefusedAtOnce};
 
 use pad_message::{Message, ReadRefused};
 use std::alloc::{AllocError, Global};

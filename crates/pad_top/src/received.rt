@@ -3,7 +3,7 @@ ghost use Rattle.pad_message.specs.Content.{most_operations};
 ghost use Rattle.pad_message.specs.Kind.{HasInterval};
 ghost use Rattle.pad_model.specs.Path.{NamesDiffer};
 ghost use Rattle.pad_model.specs.Report.{IsReport};
-ghost use Rattle.pad_top.specs.Progress.{TestsRoom};
+ghost use Rattle.pad_top.specs.Inside.Progress.{TestsRoom};
 
 use crate::read_line::read_line;
 use crate::refused::ReplayRefused;
@@ -26,7 +26,7 @@ pub(crate) struct Received {
 }
 
 impl Model for Received {
-    ghost use Rattle.pad_top.specs.Progress.{Progress, IsInside};
+    ghost use Rattle.pad_top.specs.Inside.Progress.{Progress, IsInside};
 
     ghost Value = { Progress };
 
@@ -41,7 +41,7 @@ impl Model for Received {
 impl Received {
     ghost use Rattle.pad_model.specs.Base.{first_base};
     ghost use Rattle.pad_top.specs.Received.{HasFewNames};
-    ghost use Rattle.pad_top.specs.Progress.{Receives, IsRefusedAtOnce, IsMessageRefusal, IsLineRefusal, progress_after};
+    ghost use Rattle.pad_top.specs.Inside.Progress.{Receives, IsRefusedAtOnce, IsMessageRefusal, IsLineRefusal, progress_after};
 
     /// Nothing was received yet.
     pub(crate) fn new(alloc: Global) -> Received

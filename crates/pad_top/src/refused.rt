@@ -28,7 +28,7 @@ impl From<AllocError> for ReplayRefused {
 }
 
 impl ReplayRefused {
-    ghost use Rattle.pad_top.specs.Refusal.{status_of};
+    ghost use Rattle.pad_top.specs.Inside.Refusal.{status_of};
 
     /// The status that a run ends with then.
     pub(crate) fn status(&self) -> Status

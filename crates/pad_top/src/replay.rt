@@ -3,8 +3,8 @@ ghost use Rattle.std.specs.Io.KnownBytes.{IsAtEnd};
 ghost use Rattle.pad_edge.specs.Count.{Rose};
 ghost use Rattle.pad_top.specs.Line.{lines_of};
 ghost use Rattle.pad_top.specs.Received.{IsReceived};
-ghost use Rattle.pad_top.specs.Progress.{IsLinesRefusal};
-ghost use Rattle.pad_top.specs.Refusal.{IsReplayRefusal};
+ghost use Rattle.pad_top.specs.Inside.Progress.{IsLinesRefusal};
+ghost use Rattle.pad_top.specs.Inside.Refusal.{IsReplayRefusal};
 ghost use Rattle.pad_top.specs.Replay.{IsReplayed};
 
 use crate::input::read_all;

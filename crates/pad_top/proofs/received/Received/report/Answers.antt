@@ -2,7 +2,7 @@
 use Rattle.std.proofs.Common.{string_bytes, subst}
 use Rattle.std.proofs.lemmas.Result.{IfOk-weaker}
 use Rattle.pad_top.specs.Received.{HasFewNames}
-use Rattle.pad_top.specs.Progress.{Progress}
+use Rattle.pad_top.specs.Inside.Progress.{Progress}
 use Rattle.pad_top.proofs.Receiving.{report_from_first}
 use Rattle.pad_top.proofs.received.Received.report.Goals as goal
 

@@ -1,7 +1,7 @@
 -- There is room for one more message.
 use Rattle.std.proofs.Common.{subst, sym}
 use Rattle.pad_top.specs.Received.{HasFewNames, IsOneTooMany}
-use Rattle.pad_top.specs.Progress.{IsInside, Progress}
+use Rattle.pad_top.specs.Inside.Progress.{IsInside, Progress}
 use Rattle.pad_top.proofs.Receiving.{IsInside-more, one_too_many}
 use Rattle.pad_top.proofs.received.Received.with_message.Goals as goal
 
