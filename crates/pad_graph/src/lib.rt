@@ -31,3 +31,6 @@ pub use laws::{chains_are_one, graphs_tell_the_same, new_chains_have_the_link};
 pub use linking::Linking;
 pub use linkings::Linkings;
 pub use standing::Standing;
+
+#[cfg(test)]
+mod tests;
