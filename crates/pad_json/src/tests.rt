@@ -87,7 +87,10 @@ fn values_are_numbers_and_names(rt: HostRuntime) -> Result<(), Fail> {
     for (text, want) in [
         (format!(in alloc; "\"{digits}\"")?, true),
         (format!(in alloc; "\"{digits}0\"")?, false),
-        (format!(in alloc; "\"BA{}\"", digits.get(2..).unwrap_or(""))?, false),
+        (
+            format!(in alloc; "\"BA{}\"", digits.get(2..).unwrap_or(""))?,
+            false,
+        ),
         (String::from_str(alloc, "7")?, false),
     ] {
         let value = read_plain(alloc, text.as_str())?.expect(&rt, "a value");
