@@ -31,3 +31,6 @@ pub use messages::Messages;
 pub use path::Tip;
 pub use summary::Summary;
 pub use writing::report;
+
+#[cfg(test)]
+mod tests;
