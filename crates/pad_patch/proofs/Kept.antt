@@ -94,11 +94,13 @@ stayed e place old new low size (operation ∷ operations) only none (starts, in
     elim (has_cases e kept (news ++ later) has) [
       | inl there ↦
           let found = part_has e low operation.offset old there in
-          let same = only found.0 found.3 in
-          (omega (arith, found.1), λ removed. elim removed [
-            | inl here ↦ omega (arith, here.0, found.2, same)
-            | inr behind ↦ let past = removed_from (end_of operation) size place operations rest behind in omega (arith, past, found.2, same)
-          ])
+          let same = only found.0 found.3 in (
+            omega (arith, found.1),
+            λ removed. elim removed [
+              | inl here ↦ omega (arith, here.0, found.2, same)
+              | inr behind ↦ let past = removed_from (end_of operation) size place operations rest behind in omega (arith, past, found.2, same)
+            ],
+          )
       | inr more ↦ elim (has_cases e news later more) [
         | inl new_one ↦ absurd (none (has_take e (length operation.insert) new new_one))
         | inr there ↦
@@ -283,9 +285,13 @@ kept_by_inverse patch text place at ordered inside kept =
     let within : place < size =
     let nones : List (Option ℕ) = replicate (length (inserted undo)) None in
     let places : List (Option ℕ) = map Some (range_with_len 0 (length (text_after patch text))) in
-    omega (arith, below_get (Some at) (old_places undo (length (text_after patch text))) place kept,
+    omega (
+      arith,
+      below_get (Some at) (old_places undo (length (text_after patch text))) place kept,
       same_length undo nones places back copy (length-replicate (length (inserted undo)) None ∙ sym backs) (length-map-range_with_len {X = Option ℕ} Some 0 (length (text_after patch text)) ∙ sym after),
-      ap length whole, long) in
+      ap length whole,
+      long,
+    ) in
     let is : slice_get old place ≡ Some (Some place) = get-map Some (range_with_len 0 size) place ∙ ap (option_map Some) (get-range 0 size place within) ∙ ap (λ n. Some (Some n)) (omega arith) in
     element_kept undo back copy at place (Some place) backs
     (subst (λ n. IsKeptFrom undo n at place) (sym after) kept) (ap (λ xs. slice_get xs place) whole ∙ is)
