@@ -638,6 +638,7 @@ fn holds_so_many_bytes(rt: HostRuntime) -> Result<(), Fail> {
     assert!(rt; log.room(2, 5));
     assert!(rt; !log.room(1, 11));
     assert!(rt; !log.room(2, 6));
+    log.reserve_one(alloc)?;
     let Ok(()) = log.prime(&mut volume, 0) else {
         return Err("the volume failed".into());
     };
