@@ -1,7 +1,7 @@
 #!/usr/bin/env python3
 """Measures `padnet replay` on chains of messages, in order and shuffled.
 
-usage: bench/replay.py [COUNT ..]        (100, 1000 and 3000 where none is given)
+usage: bench/replay.py [COUNT ..]        (50, 100 and 200 where none is given)
 
 It prints, for each count and order, the seconds of wall time and the peak memory of the proved program, and ends with
 status 1 where a report is not the expected one.
@@ -49,7 +49,7 @@ def replay(contents):
 
 
 def main():
-    counts = [int(word) for word in sys.argv[1:]] or [100, 1000, 3000]
+    counts = [int(word) for word in sys.argv[1:]] or [50, 100, 200]
     subprocess.run([os.path.join(TOP, "padnet"), "replay"], stdin=subprocess.DEVNULL, stdout=subprocess.DEVNULL, check=True)
     print("messages  order     seconds  peak MiB")
     right = True
