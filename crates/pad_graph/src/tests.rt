@@ -4,7 +4,7 @@ ghost use Rattle.std.specs.Prelude.{◌≡◌, IfOk};
 
 use crate::add_refused::AddRefused;
 use crate::added::Added;
-use crate::graph::{Graph, MOST_NAMES};
+use crate::graph::Graph;
 use crate::linking::Linking;
 use crate::standing::Standing;
 use pad_text::Name;
@@ -209,28 +209,5 @@ fn all_short_runs_agree_with_a_list(rt: HostRuntime) -> Result<(), Fail> {
         }
     }
     assert_eq!(rt; runs, 6912);
-    Ok(())
-}
-
-/// The name with this number in its first bytes.
-fn numbered(number: u64) -> Name {
-    let mut bytes = [7; 32];
-    bytes[0] = (number % 256) as u8;
-    bytes[1] = (number / 256 % 256) as u8;
-    bytes[2] = (number / 65536 % 256) as u8;
-    Name(bytes)
-}
-
-#[test]
-fn a_full_graph_takes_no_new_name(rt: HostRuntime) -> Result<(), Fail> {
-    let alloc = rt.alloc();
-    let mut graph = Graph::new(alloc, name(0))?;
-    for number in 0..MOST_NAMES {
-        graph.add(alloc, numbered(number), name(1))?;
-    }
-    assert_eq!(rt; (graph.known(), graph.waiting()), (MOST_NAMES, MOST_NAMES));
-    assert!(rt; matches!(graph.add(alloc, name(1), name(0)), Err(AddRefused::Full)));
-    assert_eq!(rt; told(&graph.add(alloc, numbered(5), name(0))?).0, "known");
-    assert_eq!(rt; (graph.known(), graph.waiting()), (MOST_NAMES, MOST_NAMES));
     Ok(())
 }
