@@ -36,6 +36,7 @@ fn a_folder_keeps_a_file(rt: HostRuntime) -> Result<(), Fail> {
     assert!(rt; volume.sync("a").is_ok());
     assert_eq!(rt; length_of(&mut volume, "a"), Some(2));
     assert_eq!(rt; fs::read(&rt, "made/here/a")?.as_slice(), b"ab".as_slice());
+    fs::remove_dir_all(&rt, "made")?;
     Ok(())
 }
 

@@ -7,10 +7,11 @@ use Rattle.pad_graph.specs.declared.node.Mark.{Mark}
 use Rattle.pad_graph.specs.declared.node.Mark.TheVariants as mark
 use Rattle.pad_graph.specs.Chain.{Link, top, IsChain, GoesThrough, IsLinkedName, IsKeptName, IsGoneName, BecomesLinked}
 use Rattle.pad_graph.specs.State.{State, standing}
-use Rattle.pad_graph.specs.Graph.{LinksDiffer, IsNewName, IsStanding, AreNewlyLinked, AreFound, Stands, IsUnder}
-use Rattle.pad_graph.specs.Hanging.{IsBranch, IsForest, Hangs, AreHanging}
+use Rattle.pad_graph.specs.Graph.{LinksDiffer, IsNewName, IsStanding, AreNewlyLinked, AreFound, Stands}
+use Rattle.pad_graph.specs.Inside.Hanging.{IsBranch, IsForest, Hangs, AreHanging}
 use Rattle.pad_graph.proofs.Members.{contains_head, contains_more, contains_cases}
 use Rattle.pad_graph.proofs.Chains.{link_name, named, added_in, one_parent, chain_unique, chain_more, OnChain, chain_new, through_down, through_up}
+use Rattle.pad_graph.specs.Inside.Marks.{IsUnder}
 
 pub top_over : (base first : Name) (names low : List Name) → top base low ≡ first → top base (names ++ low) ≡ top first names
 top_over base first [] low e = e

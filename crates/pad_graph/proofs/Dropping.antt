@@ -12,11 +12,11 @@ use Rattle.pad_graph.specs.declared.standing.Standing.{Standing}
 use Rattle.pad_graph.specs.declared.standing.Standing.TheVariants.{Unknown, Waiting, Linked, Gone}
 use Rattle.pad_graph.specs.Chain.{Link, top, IsChain, GoesThrough, IsLinkedName, IsKeptName, IsGoneName, IsWaitingName}
 use Rattle.pad_graph.specs.Count.{NoRepeat, IsNumberOf}
-use Rattle.pad_graph.specs.Tables.{name_cmp, with_standing, is_among, height_in, height_of_standing}
-use Rattle.pad_graph.specs.State.{State, standing, standing_of, IsHeld}
+use Rattle.pad_graph.specs.Inside.Tables.{with_standing, is_among, height_in, height_of_standing}
+use Rattle.pad_graph.specs.State.{State, standing, standing_of, IsHeld, name_cmp}
 use Rattle.pad_graph.specs.Graph.{IsStanding, IsKept, AreChildren, Stands, AreDropped, IsDropped}
-use Rattle.pad_graph.specs.Hanging.{IsBranch, IsForest, AreHanging}
-use Rattle.pad_graph.specs.Steps.{Drops}
+use Rattle.pad_graph.specs.Inside.Hanging.{IsBranch, IsForest, AreHanging}
+use Rattle.pad_graph.specs.Inside.Steps.{Drops}
 use Rattle.pad_graph.proofs.Members.{contains_head, contains_more, contains_cases, contains_none}
 use Rattle.pad_graph.proofs.Numbers.{contains_map, mapped_from, number_none, number_same, number_less, number_listed, number_without}
 use Rattle.pad_graph.proofs.Names.{name_equal, name_differs}

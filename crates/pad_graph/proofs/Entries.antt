@@ -7,8 +7,9 @@ use Rattle.std.proofs.lemmas.List.{same_from_push}
 use Rattle.pad_text.specs.declared.name.Name.{Name}
 use Rattle.pad_graph.specs.declared.node.Node.{Node}
 use Rattle.pad_graph.specs.declared.standing.Standing.{Standing}
-use Rattle.pad_graph.specs.Tables.{name_cmp, names_in, HasChild, HasSameNames, with_standing}
+use Rattle.pad_graph.specs.Inside.Tables.{names_in, HasChild, HasSameNames, with_standing}
 use Rattle.pad_graph.proofs.Names.{name_same}
+use Rattle.pad_graph.specs.State.{name_cmp}
 
 some-is : {X : Type 0} (o : Option X) (v : X) → o ≡ Some v → IsSome o
 some-is o v e = subst IsSome (sym e) refl

@@ -12,17 +12,18 @@ use Rattle.pad_graph.specs.declared.node.Node.{Node}
 use Rattle.pad_graph.specs.declared.node.Mark.{Mark}
 use Rattle.pad_graph.specs.declared.node.Mark.TheVariants as variant
 use Rattle.pad_graph.specs.declared.standing.Standing.TheVariants.{Waiting}
-use Rattle.pad_graph.specs.Tables.{name_cmp, names_in, marked, is_among, IsPut, IsSame, HasChild, HasSameNames}
+use Rattle.pad_graph.specs.Inside.Tables.{names_in, marked, is_among, IsPut, IsSame, HasChild, HasSameNames}
 use Rattle.pad_graph.specs.Chain.{Link, IsAddedName}
-use Rattle.pad_graph.specs.Hanging.{IsForest, AreHanging}
-use Rattle.pad_graph.specs.State.{State, state_of, standing_of, names_at, last_name}
-use Rattle.pad_graph.specs.Graph.{IsNewName, IsStanding, Stands, kept_by}
-use Rattle.pad_graph.specs.Growth.{with_link, Enters}
-use Rattle.pad_graph.specs.Steps.{Undoes, Drops}
+use Rattle.pad_graph.specs.Inside.Hanging.{IsForest, AreHanging}
+use Rattle.pad_graph.specs.State.{State, state_of, standing_of, names_at, last_name, name_cmp}
+use Rattle.pad_graph.specs.Graph.{IsNewName, IsStanding, Stands}
+use Rattle.pad_graph.specs.Inside.Growth.{with_link, Enters}
+use Rattle.pad_graph.specs.Inside.Steps.{Undoes, Drops}
 use Rattle.pad_graph.proofs.Marked.{marked_same}
 use Rattle.pad_graph.proofs.Members.{contains_head, contains_more, distinct_short}
 use Rattle.pad_graph.proofs.Chains.{link_name, named}
 use Rattle.pad_graph.proofs.Growth.{link_known}
+use Rattle.pad_graph.specs.Inside.Marks.{kept_by}
 
 pub names_listed : {A : Type 0} (t : Name → Bool) (es : List (Name × Vec Name A)) → names_at (lookup t (map (λ entry. (entry.0, entry.1.items)) es)) ≡ names_in (lookup t es)
 names_listed t [] = refl

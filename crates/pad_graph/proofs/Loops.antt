@@ -7,8 +7,9 @@ use Rattle.pad_text.specs.declared.name.Name.{Name}
 use Rattle.pad_graph.specs.declared.linking.Linking.{Linking}
 use Rattle.pad_graph.specs.declared.node.Node.{Node}
 use Rattle.pad_graph.specs.declared.node.Mark.{Mark}
-use Rattle.pad_graph.specs.Tables.{name_cmp, names_in, marked, marked_as, with_standing, is_among, AreMarked}
-use Rattle.pad_graph.specs.Hanging.{linkings_of}
+use Rattle.pad_graph.specs.Inside.Tables.{names_in, marked, with_standing, is_among, AreMarked}
+use Rattle.pad_graph.specs.Inside.Hanging.{linkings_of}
+use Rattle.pad_graph.specs.State.{name_cmp, marked_as}
 
 pub marked_push : (mark : Mark) (old : Name → Option Node) (xs : List Linking) (x : Linking) (q : Name) → marked mark old (xs ++ x ∷ []) q ≡ cond (is_eq (name_cmp x.name q)) (option_map (with_standing (marked_as mark x.height)) (marked mark old xs q)) (marked mark old xs q)
 marked_push mark old [] x q = refl

@@ -5,12 +5,13 @@ use Rattle.pad_text.specs.declared.name.Name.{Name}
 use Rattle.pad_graph.specs.declared.linking.Linking.{Linking}
 use Rattle.pad_graph.specs.declared.node.Node.{Node}
 use Rattle.pad_graph.specs.declared.node.Mark.{Mark}
-use Rattle.pad_graph.specs.Tables.{name_cmp, marked, marked_as, with_standing}
+use Rattle.pad_graph.specs.Inside.Tables.{marked, with_standing}
 use Rattle.pad_graph.specs.Count.{NoRepeat}
 use Rattle.pad_graph.proofs.Members.{contains_none, contains_head, contains_more, contains_cases}
 use Rattle.pad_graph.proofs.Numbers.{contains_map}
 use Rattle.pad_graph.proofs.Names.{name_equal, name_differs, name_dec}
 use Rattle.pad_graph.proofs.Spreading.{name_of}
+use Rattle.pad_graph.specs.State.{name_cmp, marked_as}
 
 pub contains_dec : (xs : List Name) (q : Name) → Contains xs q ⊎ (¬ (Contains xs q))
 contains_dec [] q = inr (contains_none q)

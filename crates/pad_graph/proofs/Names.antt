@@ -2,7 +2,7 @@
 use Rattle.std.proofs.Common.{◌≡◌, ◌≢◌, ◌⊎◌, inl, inr, Bool, true, false, is_eq, nat_eq, refl, sym, ap, ◌∙◌, true≢false}
 use Rattle.std.specs.Cmp.Lexicographic.{texts_ties, bytes_decides, pointwise}
 use Rattle.pad_text.specs.declared.name.Name.{Name}
-use Rattle.pad_graph.specs.Tables.{name_cmp}
+use Rattle.pad_graph.specs.State.{name_cmp}
 
 pub name_same : (x y : Name) → is_eq (name_cmp x y) ≡ true → x ≡ y
 name_same x y h = ap (λ bytes. record { 0 = bytes }) ((bytes_decides x.0 y.0).0 (texts_ties x.0 y.0 ∙ h))

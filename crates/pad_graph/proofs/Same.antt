@@ -1,12 +1,12 @@
 -- Two graphs that stand for the same links and root.
-use Rattle.std.proofs.Common.{◌≡◌, ℕ, List, [], ◌∷◌, ◌⊎◌, inl, inr, length, Contains, refl, sym, ap, ◌∙◌, subst, arith}
+use Rattle.std.proofs.Common.{◌≡◌, ℕ, List, ◌⊎◌, inl, inr, length, refl, sym, ap, ◌∙◌, subst}
 use Rattle.pad_text.specs.declared.name.Name.{Name}
 use Rattle.pad_graph.specs.declared.standing.Standing.{Standing}
 use Rattle.pad_graph.specs.declared.standing.Standing.TheVariants.{Unknown, Waiting, Linked, Gone}
-use Rattle.pad_graph.specs.Chain.{Link, top, IsChain, GoesThrough, IsLinkedName, IsKeptName, IsGoneName, IsWaitingName}
-use Rattle.pad_graph.specs.State.{State, standing}
-use Rattle.pad_graph.specs.Graph.{LinksDiffer, IsNewName, IsStanding, IsKept, Stands}
-use Rattle.pad_graph.specs.Laws.{TellTheSame, GraphsTellTheSame, NewChainsHaveTheLink, HasLink}
+use Rattle.pad_graph.specs.Chain.{Link, IsChain, GoesThrough, IsLinkedName, IsKeptName, IsGoneName, IsWaitingName}
+use Rattle.pad_graph.specs.State.{standing}
+use Rattle.pad_graph.specs.Graph.{LinksDiffer, IsStanding, IsKept}
+use Rattle.pad_graph.specs.Laws.{GraphsTellTheSame, NewChainsHaveTheLink, HasLink}
 use Rattle.pad_graph.proofs.Numbers.{one_number}
 use Rattle.pad_graph.proofs.Chains.{chain_unique, OnChain, chain_new, through_down, through_up}
 use Rattle.pad_graph.proofs.Growth.{new_not_linked}

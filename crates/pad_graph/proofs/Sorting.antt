@@ -6,7 +6,7 @@ use Rattle.std.proofs.lemmas.List.Sorted.{IsPermutation-sym, Contains-permutatio
 use Rattle.pad_text.specs.declared.name.Name.{Name}
 use Rattle.pad_graph.specs.declared.linking.Linking.{Linking}
 use Rattle.pad_graph.specs.Count.{NoRepeat}
-use Rattle.pad_graph.specs.Hanging.{AreHanging}
+use Rattle.pad_graph.specs.Inside.Hanging.{AreHanging}
 use Rattle.pad_graph.proofs.Members.{contains_cases, Split, split, distinct_short}
 use Rattle.pad_graph.proofs.Numbers.{contains_map, mapped_from, no_repeat_without}
 use Rattle.pad_graph.proofs.Marked.{contains_dec}

@@ -4,13 +4,13 @@ use Rattle.std.proofs.lemmas.List.{length-map, map-append}
 use Rattle.std.proofs.lemmas.List.Elements.{Contains-append_left, Contains-append_right, Contains-push_cases}
 use Rattle.pad_text.specs.declared.name.Name.{Name}
 use Rattle.pad_graph.specs.declared.linking.Linking.{Linking}
-use Rattle.pad_graph.specs.Tables.{name_cmp}
 use Rattle.pad_graph.specs.Chain.{top}
 use Rattle.pad_graph.specs.Count.{NoRepeat}
-use Rattle.pad_graph.specs.Hanging.{linkings_of, IsBranch, IsForest, Hangs, AreHanging}
+use Rattle.pad_graph.specs.Inside.Hanging.{linkings_of, IsBranch, IsForest, Hangs, AreHanging}
 use Rattle.pad_graph.proofs.Members.{contains_none, contains_head, contains_more, contains_cases, distinct_short}
 use Rattle.pad_graph.proofs.Numbers.{contains_map, mapped_from, no_repeat_front, contains_append, no_repeat_append}
 use Rattle.pad_graph.proofs.Names.{name_same, name_apart}
+use Rattle.pad_graph.specs.State.{name_cmp}
 
 abbrev pub name_of : Linking → Name
 name_of linking = linking.name

@@ -1,17 +1,15 @@
 -- What a graph stands for: the links added, the newest first, and a root, which is a chain of them.
-use Rattle.std.specs.Prelude.{◌≡◌, ◌≢◌, ◌↔◌, ◌⊎◌, ⊤, ℕ, List, [], ◌∷◌, ◌++◌, length, map, Contains, Option, Some, MatchOption}
+use Rattle.std.specs.Prelude.{◌≡◌, ◌≢◌, ◌↔◌, ◌⊎◌, ℕ, List, [], ◌∷◌, ◌++◌, length, map, Contains, Option, Some, MatchOption}
 use Rattle.pad_text.specs.declared.name.Name.{Name}
 use Rattle.pad_graph.specs.declared.linking.Linking.{Linking}
 use Rattle.pad_graph.specs.declared.last.Last.{Last}
 use Rattle.pad_graph.specs.declared.node.Node.{Node}
 use Rattle.pad_graph.specs.declared.node.Mark.{Mark}
-use Rattle.pad_graph.specs.declared.node.Mark.TheVariants as mark
 use Rattle.pad_graph.specs.declared.standing.Standing.{Standing}
 use Rattle.pad_graph.specs.declared.standing.Standing.TheVariants.{Unknown, Waiting, Linked, Gone}
 use Rattle.pad_graph.specs.Chain.{Link, top, IsChain, IsKeptName, IsGoneName, IsAddedName, IsWaitingName, BecomesLinked}
 use Rattle.pad_graph.specs.Count.{NoRepeat, IsNumberOf}
-use Rattle.pad_graph.specs.Tables.{marked_as}
-use Rattle.pad_graph.specs.State.{State, standing}
+use Rattle.pad_graph.specs.State.{State, standing, marked_as}
 
 -- no name was added twice
 abbrev pub LinksDiffer : List Link → Type 0
@@ -83,25 +81,6 @@ pub record Stands (state : State) (base : Name) (links : List Link) (root : List
   pub waiting : IsNumberOf (IsWaitingName base links) state.waiting
   pub kept : IsNumberOf (IsKept base links root) state.kept
   pub undo : (last : Last) → state.last ≡ Some last → IsLast base links root state.children state.linked last
-
--- the parent stands so, and what is linked on it is marked so
-abbrev pub IsUnder : Mark → ℕ → Standing → Type 0
-IsUnder mark.Waiting height standing = ⊥
-IsUnder mark.Linked height standing = standing ≡ Linked height
-IsUnder mark.Gone height standing = standing ≡ Gone height
-
--- how many of these are kept
-abbrev pub kept_by : Mark → ℕ → ℕ
-kept_by mark.Waiting many = 0
-kept_by mark.Linked many = many
-kept_by mark.Gone many = 0
-
--- it is not linked
-abbrev pub IsApart : Standing → Type 0
-IsApart Unknown = ⊤
-IsApart Waiting = ⊤
-IsApart (Linked height) = ⊥
-IsApart (Gone height) = ⊥
 
 -- these are linked through the root `below`, and not through the root `names`; each once
 pub record AreDropped (base : Name) (links : List Link) (below names : List Name) (dropped : List Linking) : Type 0 where

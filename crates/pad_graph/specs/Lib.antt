@@ -2,10 +2,6 @@ pub mod Added
 pub mod Chain
 pub mod Count
 pub mod Graph
-pub mod Growth
-pub mod Hanging
 pub mod Inside
 pub mod Laws
 pub mod State
-pub mod Steps
-pub mod Tables

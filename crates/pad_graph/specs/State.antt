@@ -1,15 +1,29 @@
 -- What contracts see of a graph.
 use Rattle.std.specs.Prelude.{⊤, ℕ, List, [], Option, Some, None}
+use Rattle.std.specs.declared.cmp.Ordering.{Ordering}
+use Rattle.std.specs.Ordering.{nat_cmp}
+use Rattle.std.specs.Cmp.Lexicographic.{slice_cmp}
 use Rattle.std.specs.Option.{option_map}
 use Rattle.std.specs.Map.{lookup}
 use Rattle.std.specs.BTreeMap.{is_at}
 use Rattle.pad_text.specs.declared.name.Name.{Name}
-use Rattle.pad_graph.specs.Tables.{name_cmp}
 use Rattle.pad_graph.specs.declared.linking.Linking.{Linking}
 use Rattle.pad_graph.specs.declared.last.Last.{Last}
 use Rattle.pad_graph.specs.declared.node.Node.{Node}
+use Rattle.pad_graph.specs.declared.node.Mark.{Mark}
+use Rattle.pad_graph.specs.declared.node.Mark.TheVariants as mark
 use Rattle.pad_graph.specs.declared.standing.Standing.{Standing}
 use Rattle.pad_graph.specs.declared.standing.Standing.TheVariants.{Unknown, Waiting, Linked, Gone}
+
+-- the order of names by their bytes
+abbrev pub name_cmp : Name → Name → Ordering
+name_cmp name other = slice_cmp nat_cmp name.0 other.0
+
+-- how a name stands that is marked at the height
+abbrev pub marked_as : Mark → ℕ → Standing
+marked_as mark.Waiting height = Waiting
+marked_as mark.Linked height = Linked height
+marked_as mark.Gone height = Gone height
 
 -- the tables of a graph, its counts, and what was added and dropped last
 pub record Tables : Type 0 where

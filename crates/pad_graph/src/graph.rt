@@ -1,6 +1,6 @@
 //! The graph: which names are linked, which wait, and which are gone.
 
-ghost use Rattle.std.specs.Prelude.{◌≡◌, ◌⊎◌, ◌<◌, List, [], ◌∷◌, IfOk, IfErr, OnOk, OnErr, Some, None, Err};
+ghost use Rattle.std.specs.Prelude.{◌≡◌, ◌⊎◌, ◌<◌, ◌≤◌, List, [], ◌∷◌, IfOk, IfErr, OnOk, OnErr, Some, None, Err};
 ghost use Rattle.std.specs.List.Sorted.{IsSorted};
 ghost use Rattle.pad_text.specs.declared.name.Name.{Name};
 ghost use Rattle.pad_graph.specs.declared.graph.TheConstants.{MOST_NAMES};
@@ -8,11 +8,12 @@ ghost use Rattle.pad_graph.specs.declared.add_refused.AddRefused.TheVariants.{Fu
 ghost use Rattle.pad_graph.specs.declared.added.Added.TheVariants.{Known};
 ghost use Rattle.pad_graph.specs.declared.node.Mark.TheVariants.{Waiting as Waits};
 ghost use Rattle.pad_graph.specs.declared.standing.Standing.TheVariants.{Unknown};
-ghost use Rattle.pad_graph.specs.Added.{IsAdded, links_after, linking_cmp};
+ghost use Rattle.pad_graph.specs.Added.{IsAdded, HasName, links_after, linking_cmp};
 ghost use Rattle.pad_graph.specs.Chain.{Link, top, IsChain};
 ghost use Rattle.pad_graph.specs.Count.{IsNumberOf};
 ghost use Rattle.pad_graph.specs.State.{state_of, standing, last_name, IsHeld};
-ghost use Rattle.pad_graph.specs.Graph.{IsStanding, IsParentOf, AreFound, Stands, IsUnder, IsApart, AreDropped, IsDropped, kept_by};
+ghost use Rattle.pad_graph.specs.Graph.{IsStanding, IsParentOf, AreFound, Stands, AreDropped, IsDropped};
+ghost use Rattle.pad_graph.specs.Inside.Marks.{IsUnder, IsApart, kept_by};
 
 use crate::add_refused::AddRefused;
 use crate::added::Added;
@@ -48,7 +49,7 @@ pub struct Graph {
 
 impl Model for Graph {
     ghost use Rattle.pad_graph.specs.State.{Tables};
-    ghost use Rattle.pad_graph.specs.Inside.{tables_of, IsGraph};
+    ghost use Rattle.pad_graph.specs.Inside.Fields.{tables_of, IsGraph};
 
     ghost Value = { Tables };
 
@@ -119,9 +120,10 @@ impl Graph {
         self.dropped.as_slice()
     }
 
-    /// How many names were added.
+    /// How many names were added; at most `MOST_NAMES`.
     pub fn known(&self) -> u64
-        ensures { result ≡ (state_of self.now).known }
+        ensures is { result ≡ (state_of self.now).known }
+        ensures few { result ≤ MOST_NAMES }
     {
         self.known
     }
@@ -301,6 +303,7 @@ impl Graph {
         requires under { IsUnder mark height (standing (state_of self.old) parent) }
         ensures ok { IfOk result (λ found. (base : Name) (links : List Link) (root : List Name) → Stands (state_of self.old) base links root → AreFound base links root (record { name = name; parent = parent }) mark found × Stands (state_of self.new) base (record { name = name; parent = parent } ∷ links) root) }
         ensures sorted { IfOk result (IsSorted linking_cmp) }
+        ensures itself { IfOk result (λ found. HasName found name) }
         ensures last { OnOk result (last_name (state_of self.new) ≡ Some name) }
         ensures err { OnErr result (state_of self.new ≡ state_of self.old) }
     {

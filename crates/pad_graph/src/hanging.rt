@@ -3,8 +3,9 @@
 ghost use Rattle.std.specs.Prelude.{◌≡◌, ◌≤◌, ◌+◌, ◌<◌, ◌^◌, ◌++◌, List, IfOk};
 ghost use Rattle.std.specs.BTreeMap.{get};
 ghost use Rattle.pad_text.specs.declared.name.Name.{Name};
-ghost use Rattle.pad_graph.specs.Tables.{name_cmp, names_in};
-ghost use Rattle.pad_graph.specs.Hanging.{linkings_of, IsForest, AreHanging};
+ghost use Rattle.pad_graph.specs.Inside.Tables.{names_in};
+ghost use Rattle.pad_graph.specs.Inside.Hanging.{linkings_of, IsForest, AreHanging};
+ghost use Rattle.pad_graph.specs.State.{name_cmp};
 
 use crate::linking::Linking;
 use crate::tables::names_of;

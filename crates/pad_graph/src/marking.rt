@@ -3,7 +3,8 @@
 ghost use Rattle.std.specs.Prelude.{◌≡◌, [], cond};
 ghost use Rattle.std.specs.BTreeMap.{get};
 ghost use Rattle.pad_text.specs.declared.name.Name.{Name};
-ghost use Rattle.pad_graph.specs.Tables.{name_cmp, names_in, marked, is_among};
+ghost use Rattle.pad_graph.specs.Inside.Tables.{names_in, marked, is_among};
+ghost use Rattle.pad_graph.specs.State.{name_cmp};
 
 use crate::linking::Linking;
 use crate::node::{Mark, Node};

@@ -13,7 +13,7 @@ pub(crate) struct Node {
 }
 
 impl Node {
-    ghost use Rattle.pad_graph.specs.Tables.{parent_told};
+    ghost use Rattle.pad_graph.specs.Inside.Tables.{parent_told};
 
     /// The parent, where the name waits, or is linked and not the base.
     pub fn told_parent(&self) -> Option<Name>

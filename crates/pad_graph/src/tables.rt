@@ -3,7 +3,8 @@
 ghost use Rattle.std.specs.Prelude.{◌≡◌, ◌≤◌, ◌<◌, ◌-◌, IfSome, OnOk, OnErr, List, [], ◌∷◌, ◌++◌, Some, None};
 ghost use Rattle.std.specs.BTreeMap.{get};
 ghost use Rattle.pad_text.specs.declared.name.Name.{Name};
-ghost use Rattle.pad_graph.specs.Tables.{name_cmp, names_in, IsPut, IsSame, HasChild, HasSameNames, marked_as, height_in, AreMarked};
+ghost use Rattle.pad_graph.specs.Inside.Tables.{names_in, IsPut, IsSame, HasChild, HasSameNames, height_in, AreMarked};
+ghost use Rattle.pad_graph.specs.State.{name_cmp, marked_as};
 
 use crate::linking::Linking;
 use crate::node::{Mark, Node};

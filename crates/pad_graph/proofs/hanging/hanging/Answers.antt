@@ -1,9 +1,10 @@
 use Rattle.std.proofs.Common.{◌<◌, ◌++◌, ◌∷◌, [], List, length, add-one, sym, ap, ◌∙◌, subst, arith}
 use Rattle.std.specs.BTreeMap.{get}
 use Rattle.pad_graph.specs.declared.linking.Linking.{Linking}
-use Rattle.pad_graph.specs.Tables.{name_cmp, names_in}
+use Rattle.pad_graph.specs.Inside.Tables.{names_in}
 use Rattle.pad_graph.proofs.Spreading.{At, at_place, at_contains, low_on, low_start, spreads_start, spreads_on, spreads_done, spreads_end}
 use Rattle.pad_graph.proofs.hanging.hanging.Goals as goal
+use Rattle.pad_graph.specs.State.{name_cmp}
 
 pub loop-at-init : goal.loop-at-init
 loop-at-init c =

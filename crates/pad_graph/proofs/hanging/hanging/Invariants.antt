@@ -2,10 +2,11 @@ use Rattle.std.proofs.Common.{◌+◌, ◌≤◌, List, Contains}
 use Rattle.std.specs.BTreeMap.{get}
 use Rattle.pad_text.specs.declared.name.Name.{Name}
 use Rattle.pad_graph.specs.declared.linking.Linking.{Linking}
-use Rattle.pad_graph.specs.Tables.{name_cmp, names_in}
-use Rattle.pad_graph.specs.Hanging.{IsForest}
+use Rattle.pad_graph.specs.Inside.Tables.{names_in}
+use Rattle.pad_graph.specs.Inside.Hanging.{IsForest}
 use Rattle.pad_graph.proofs.Spreading.{Spreads}
 use Rattle.pad_graph.proofs.hanging.hanging.Given as goal
+use Rattle.pad_graph.specs.State.{name_cmp}
 
 abbrev pub invariant-loop-at : goal.invariant-loop-at
 invariant-loop-at l = record {

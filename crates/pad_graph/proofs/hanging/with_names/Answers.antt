@@ -1,7 +1,7 @@
 use Rattle.std.proofs.Common.{◌++◌, [], take, get_or, add-one, sym, ap, ◌∙◌}
 use Rattle.std.proofs.Math.Seq.{take-suc}
 use Rattle.pad_text.specs.declared.name.Name.{Name}
-use Rattle.pad_graph.specs.Hanging.{linkings_of}
+use Rattle.pad_graph.specs.Inside.Hanging.{linkings_of}
 use Rattle.pad_graph.proofs.Names.{name_yes, name_no, name_equal, name_differs}
 use Rattle.pad_graph.proofs.Loops.{names_skip, names_add}
 use Rattle.pad_graph.proofs.hanging.with_names.Goals as goal

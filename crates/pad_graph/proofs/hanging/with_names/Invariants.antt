@@ -1,5 +1,5 @@
 use Rattle.std.proofs.Common.{◌≡◌, ◌++◌, take}
-use Rattle.pad_graph.specs.Hanging.{linkings_of}
+use Rattle.pad_graph.specs.Inside.Hanging.{linkings_of}
 use Rattle.pad_graph.proofs.hanging.with_names.Given as goal
 
 abbrev pub invariant-loop-name : goal.invariant-loop-name

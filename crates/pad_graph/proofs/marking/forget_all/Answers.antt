@@ -3,9 +3,10 @@ use Rattle.std.proofs.Math.Seq.{take-suc}
 use Rattle.std.specs.BTreeMap.{get}
 use Rattle.pad_text.specs.declared.name.Name.{Name}
 use Rattle.pad_graph.specs.declared.linking.Linking.{Linking}
-use Rattle.pad_graph.specs.Tables.{name_cmp, names_in, is_among}
+use Rattle.pad_graph.specs.Inside.Tables.{names_in, is_among}
 use Rattle.pad_graph.proofs.Loops.{forgot_next}
 use Rattle.pad_graph.proofs.marking.forget_all.Goals as goal
+use Rattle.pad_graph.specs.State.{name_cmp}
 
 pub loop-linking-preserved : goal.loop-linking-preserved
 loop-linking-preserved c q =

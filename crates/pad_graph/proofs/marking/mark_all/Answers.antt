@@ -2,9 +2,10 @@ use Rattle.std.proofs.Common.{[], take, get_or, add-one, sym, ap, ◌∙◌}
 use Rattle.std.proofs.Math.Seq.{take-suc}
 use Rattle.std.specs.BTreeMap.{get}
 use Rattle.pad_graph.specs.declared.linking.Linking.{Linking}
-use Rattle.pad_graph.specs.Tables.{name_cmp, marked}
+use Rattle.pad_graph.specs.Inside.Tables.{marked}
 use Rattle.pad_graph.proofs.Loops.{marked_next}
 use Rattle.pad_graph.proofs.marking.mark_all.Goals as goal
+use Rattle.pad_graph.specs.State.{name_cmp}
 
 pub loop-linking-preserved : goal.loop-linking-preserved
 loop-linking-preserved c q =

@@ -2,9 +2,9 @@ use Rattle.std.proofs.Common.{◌≡◌, List, [], ◌∷◌, ◌++◌, Some, No
 use Rattle.std.specs.Option.{option_copied_mut}
 use Rattle.std.specs.BTreeMap.{get}
 use Rattle.pad_text.specs.declared.name.Name.{Name}
-use Rattle.pad_graph.specs.Tables.{name_cmp}
 use Rattle.pad_graph.proofs.Entries.{child_wrote, same_wrote, child_put}
 use Rattle.pad_graph.proofs.tables.add_child.Goals as goal
+use Rattle.pad_graph.specs.State.{name_cmp}
 
 pub returns-in-Ok-clause-ok : goal.returns-in-Ok-clause-ok
 returns-in-Ok-clause-ok c =

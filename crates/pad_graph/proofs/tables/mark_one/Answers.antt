@@ -1,9 +1,9 @@
 use Rattle.std.proofs.Common.{◌≡◌, Some, None, sym, ap, ◌∙◌}
 use Rattle.std.specs.Option.{option_copied_mut}
 use Rattle.std.specs.BTreeMap.{get}
-use Rattle.pad_graph.specs.Tables.{name_cmp, marked_as}
 use Rattle.pad_graph.proofs.Entries.{mark_wrote, mark_none}
 use Rattle.pad_graph.proofs.tables.mark_one.Goals as goal
+use Rattle.pad_graph.specs.State.{name_cmp, marked_as}
 
 pub returns-in-Some : goal.returns-in-Some
 returns-in-Some c q =

@@ -1,9 +1,10 @@
 use Rattle.std.proofs.Common.{◌≡◌, Some, None, sym, ap, ◌∙◌}
 use Rattle.std.specs.Option.{option_copied_mut}
 use Rattle.std.specs.BTreeMap.{get}
-use Rattle.pad_graph.specs.Tables.{name_cmp, names_in}
+use Rattle.pad_graph.specs.Inside.Tables.{names_in}
 use Rattle.pad_graph.proofs.Entries.{child_lost, lost_none, popped}
 use Rattle.pad_graph.proofs.tables.remove_child.Goals as goal
+use Rattle.pad_graph.specs.State.{name_cmp}
 
 pub returns-in-Some : goal.returns-in-Some
 returns-in-Some c before name whole =

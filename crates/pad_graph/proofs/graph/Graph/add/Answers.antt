@@ -1,7 +1,6 @@
 use Rattle.std.proofs.Common.{◌≡◌, Some, None, sym, ap, ◌∙◌, subst}
 use Rattle.std.specs.BTreeMap.{get}
-use Rattle.pad_graph.specs.Tables.{name_cmp}
-use Rattle.pad_graph.specs.State.{state_of}
+use Rattle.pad_graph.specs.State.{state_of, name_cmp}
 use Rattle.pad_graph.specs.Graph.{Stands}
 use Rattle.pad_graph.proofs.Members.{contains_none}
 use Rattle.pad_graph.proofs.Starting.{known_name, node_none}
@@ -26,13 +25,13 @@ pub returns-in_ok-found-in-Linked-clause-stands : goal.returns-in_ok-found-in-Li
 returns-in_ok-found-in-Linked-clause-stands c base links root h =
     let none = ap (λ t. (state_of t).node c.args.name) (sym c.self.view_is) ∙ no_node (get name_cmp c.self.inside.nodes c.args.name) c.if-contains_key.ensures in
     let (found, stands) = c.in_ok-found-in-Linked.ensures.ok base links root h in
-    ((fresh_by (state_of c.args.self.now) base links root c.args.name h none, found, c.in_ok-found-in-Linked.ensures.sorted), stands)
+    ((fresh_by (state_of c.args.self.now) base links root c.args.name h none, found, c.in_ok-found-in-Linked.ensures.sorted, c.in_ok-found-in-Linked.ensures.itself), stands)
 
 pub returns-in_ok-found-in-Gone-clause-stands : goal.returns-in_ok-found-in-Gone-clause-stands
 returns-in_ok-found-in-Gone-clause-stands c base links root h =
     let none = ap (λ t. (state_of t).node c.args.name) (sym c.self.view_is) ∙ no_node (get name_cmp c.self.inside.nodes c.args.name) c.if-contains_key.ensures in
     let (found, stands) = c.in_ok-found-in-Gone.ensures.ok base links root h in
-    ((fresh_by (state_of c.args.self.now) base links root c.args.name h none, found, c.in_ok-found-in-Gone.ensures.sorted), stands)
+    ((fresh_by (state_of c.args.self.now) base links root c.args.name h none, found, c.in_ok-found-in-Gone.ensures.sorted, c.in_ok-found-in-Gone.ensures.itself), stands)
 
 pub returns-in_ok-wait-in_default-clause-stands : goal.returns-in_ok-wait-in_default-clause-stands
 returns-in_ok-wait-in_default-clause-stands c base links root h =

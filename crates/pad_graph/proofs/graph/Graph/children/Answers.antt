@@ -1,6 +1,5 @@
 use Rattle.std.proofs.Common.{sym, ap, ◌∙◌}
-use Rattle.pad_graph.specs.Tables.{name_cmp}
-use Rattle.pad_graph.specs.State.{state_of}
+use Rattle.pad_graph.specs.State.{state_of, name_cmp}
 use Rattle.std.specs.BTreeMap.{is_at}
 use Rattle.pad_graph.proofs.Fields.{names_listed}
 use Rattle.pad_graph.proofs.graph.Graph.children.Goals as goal

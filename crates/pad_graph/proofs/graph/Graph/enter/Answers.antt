@@ -3,7 +3,7 @@ use Rattle.pad_graph.specs.declared.linking.Linking.{Linking}
 use Rattle.pad_graph.specs.Chain.{Link}
 use Rattle.pad_graph.specs.State.{Tables, state_of}
 use Rattle.pad_graph.specs.Graph.{Stands}
-use Rattle.pad_graph.specs.Inside.{tables_of}
+use Rattle.pad_graph.specs.Inside.Fields.{tables_of}
 use Rattle.pad_graph.proofs.Growth.{room, enters}
 use Rattle.pad_graph.proofs.Fields.{same_state, waiting_small, kept_small, kept_by_small, enters_by, fresh_by}
 use Rattle.pad_graph.proofs.graph.Graph.enter.Goals as goal

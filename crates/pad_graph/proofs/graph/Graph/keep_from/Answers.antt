@@ -3,11 +3,11 @@ use Rattle.std.specs.BTreeMap.{get}
 use Rattle.pad_text.specs.declared.name.Name.{Name}
 use Rattle.pad_graph.specs.declared.node.Mark.TheVariants.{Gone}
 use Rattle.pad_graph.specs.Count.{IsNumberOf}
-use Rattle.pad_graph.specs.Tables.{name_cmp, names_in, marked, is_among}
-use Rattle.pad_graph.specs.State.{state_of, standing, IsHeld}
-use Rattle.pad_graph.specs.Inside.{tables_of}
+use Rattle.pad_graph.specs.Inside.Tables.{names_in, marked, is_among}
+use Rattle.pad_graph.specs.State.{state_of, standing, IsHeld, name_cmp}
+use Rattle.pad_graph.specs.Inside.Fields.{tables_of}
 use Rattle.pad_graph.specs.Graph.{Stands, AreDropped, IsDropped}
-use Rattle.pad_graph.specs.Hanging.{AreHanging}
+use Rattle.pad_graph.specs.Inside.Hanging.{AreHanging}
 use Rattle.pad_graph.proofs.Names.{name_yes, name_no}
 use Rattle.pad_graph.proofs.Fields.{forest_listed, hanging_listed, drops_by, kept_small}
 use Rattle.pad_graph.proofs.Dropping.{root_height, root_small, one_root, none_dropped, no_message, forest, are_dropped, first_found, fits, drops, with_base, without_base, other_dropped, held_chain}

@@ -1,7 +1,6 @@
 use Rattle.std.proofs.Common.{◌≡◌, Some, None, sym, ap, ◌∙◌, subst}
 use Rattle.std.specs.BTreeMap.{get}
-use Rattle.pad_graph.specs.Tables.{name_cmp}
-use Rattle.pad_graph.specs.State.{state_of}
+use Rattle.pad_graph.specs.State.{state_of, name_cmp}
 use Rattle.pad_graph.specs.Graph.{IsParentOf}
 use Rattle.pad_graph.proofs.Starting.{told_parent, no_parent}
 use Rattle.pad_graph.proofs.graph.Graph.parent.Goals as goal

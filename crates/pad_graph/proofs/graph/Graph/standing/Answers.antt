@@ -1,7 +1,6 @@
 use Rattle.std.proofs.Common.{◌≡◌, Some, None, sym, ap, ◌∙◌, subst}
 use Rattle.std.specs.BTreeMap.{get}
-use Rattle.pad_graph.specs.Tables.{name_cmp}
-use Rattle.pad_graph.specs.State.{state_of, standing_of}
+use Rattle.pad_graph.specs.State.{state_of, standing_of, name_cmp}
 use Rattle.pad_graph.specs.Graph.{IsStanding}
 use Rattle.pad_graph.proofs.graph.Graph.standing.Goals as goal
 

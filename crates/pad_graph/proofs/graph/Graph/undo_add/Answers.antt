@@ -3,9 +3,9 @@ use Rattle.std.specs.BTreeMap.{get, is_at}
 use Rattle.pad_text.specs.declared.name.Name.{Name}
 use Rattle.pad_graph.specs.declared.last.Last.{Last}
 use Rattle.pad_graph.specs.declared.node.Mark.TheVariants.{Waiting}
-use Rattle.pad_graph.specs.Tables.{name_cmp, marked}
-use Rattle.pad_graph.specs.State.{state_of}
-use Rattle.pad_graph.specs.Inside.{tables_of}
+use Rattle.pad_graph.specs.Inside.Tables.{marked}
+use Rattle.pad_graph.specs.State.{state_of, name_cmp}
+use Rattle.pad_graph.specs.Inside.Fields.{tables_of}
 use Rattle.pad_graph.specs.Graph.{Stands}
 use Rattle.pad_graph.proofs.Undone.{last_parent, last_known, undone, undone_links}
 use Rattle.pad_graph.proofs.Fields.{names_listed, undoes_by, same_last}

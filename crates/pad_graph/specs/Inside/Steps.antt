@@ -6,8 +6,8 @@ use Rattle.pad_graph.specs.declared.linking.Linking.{Linking}
 use Rattle.pad_graph.specs.declared.last.Last.{Last}
 use Rattle.pad_graph.specs.declared.node.Node.{Node}
 use Rattle.pad_graph.specs.declared.node.Mark.TheVariants.{Waiting, Gone}
-use Rattle.pad_graph.specs.Tables.{name_cmp, marked, is_among}
-use Rattle.pad_graph.specs.State.{State}
+use Rattle.pad_graph.specs.Inside.Tables.{marked, is_among}
+use Rattle.pad_graph.specs.State.{State, name_cmp}
 
 -- the name that was added last was taken back
 pub record Undoes (old new : State) (parent : Name) (before : Last) : Type 0 where

@@ -7,9 +7,9 @@ use Rattle.pad_graph.specs.declared.node.Node.{Node}
 use Rattle.pad_graph.specs.declared.node.Mark.{Mark}
 use Rattle.pad_graph.specs.declared.standing.Standing.TheVariants.{Waiting}
 use Rattle.pad_graph.specs.Chain.{Link}
-use Rattle.pad_graph.specs.Tables.{name_cmp, marked}
-use Rattle.pad_graph.specs.State.{State}
-use Rattle.pad_graph.specs.Graph.{kept_by}
+use Rattle.pad_graph.specs.Inside.Tables.{marked}
+use Rattle.pad_graph.specs.State.{State, name_cmp}
+use Rattle.pad_graph.specs.Inside.Marks.{kept_by}
 
 -- the nodes with one more, which waits
 abbrev pub with_link : (Name → Option Node) → Link → Name → Option Node

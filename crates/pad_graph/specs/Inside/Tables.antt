@@ -1,9 +1,7 @@
 -- What a step does to the tables of a graph.
 use Rattle.std.specs.Prelude.{◌≡◌, ◌++◌, ◌∷◌, ◌||◌, ℕ, List, [], Bool, false, Option, Some, None, cond, nat_lt, if◌then◌else◌}
-use Rattle.std.specs.declared.cmp.Ordering.{Ordering}
-use Rattle.std.specs.Ordering.{nat_cmp, is_eq}
+use Rattle.std.specs.Ordering.{is_eq}
 use Rattle.std.specs.Option.{option_map}
-use Rattle.std.specs.Cmp.Lexicographic.{slice_cmp}
 use Rattle.std.specs.declared.vec.Vec.{Vec}
 use Rattle.std.specs.BTreeMap.{BTreeMap, get}
 use Rattle.pad_text.specs.declared.name.Name.{Name}
@@ -12,22 +10,12 @@ use Rattle.pad_graph.specs.declared.standing.Standing.{Standing}
 use Rattle.pad_graph.specs.declared.standing.Standing.TheVariants.{Unknown, Waiting, Linked, Gone}
 use Rattle.pad_graph.specs.declared.node.Node.{Node}
 use Rattle.pad_graph.specs.declared.node.Mark.{Mark}
-use Rattle.pad_graph.specs.declared.node.Mark.TheVariants as mark
-
--- the order of names by their bytes
-abbrev pub name_cmp : Name → Name → Ordering
-name_cmp name other = slice_cmp nat_cmp name.0 other.0
+use Rattle.pad_graph.specs.State.{name_cmp, marked_as}
 
 -- the names of an entry; none where there is no entry
 abbrev pub names_in : {A : Type 0} → Option (Vec Name A) → List Name
 names_in None = []
 names_in (Some names) = names.items
-
--- how a name stands that is marked at the height
-abbrev pub marked_as : Mark → ℕ → Standing
-marked_as mark.Waiting height = Waiting
-marked_as mark.Linked height = Linked height
-marked_as mark.Gone height = Gone height
 
 -- the value at the name is this one; all other names have what they had
 abbrev pub IsPut : {X : Type 0} → BTreeMap Name X → BTreeMap Name X → Name → Option X → Type 0
