@@ -5,7 +5,7 @@ use Rattle.serde_json.specs.Read.{max_depth}
 use Rattle.hex.specs.Hex.{encode_lower}
 use Rattle.pad_text.specs.Digits.{IsDigits}
 use Rattle.pad_text.specs.declared.name.Name.{Name}
-use Rattle.pad_text.proofs.HexDigits.{IsDigits-bytes, digits-same}
+use Rattle.pad_text.proofs.CallerLemmas.{IsDigits-bytes, digits-same}
 use Rattle.pad_json.specs.Data.{IsSimple, array_of}
 use Rattle.pad_json.specs.Name.{IsName, name_data}
 use Rattle.pad_json.proofs.CallerLemmas.{compact_spells}

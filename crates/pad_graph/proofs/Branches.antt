@@ -9,7 +9,7 @@ use Rattle.pad_graph.specs.Chain.{Link, top, IsChain, GoesThrough, IsLinkedName,
 use Rattle.pad_graph.specs.State.{State, standing}
 use Rattle.pad_graph.specs.Graph.{LinksDiffer, IsNewName, IsStanding, AreNewlyLinked, AreFound, Stands}
 use Rattle.pad_graph.specs.Inside.Hanging.{IsBranch, IsForest, Hangs, AreHanging}
-use Rattle.pad_graph.proofs.Members.{contains_head, contains_more, contains_cases}
+use Rattle.pad_list.proofs.CallerLemmas.{contains_head, contains_more, contains_cases}
 use Rattle.pad_graph.proofs.Chains.{link_name, named, added_in, one_parent, chain_unique, chain_more, OnChain, chain_new, through_down, through_up}
 use Rattle.pad_graph.specs.Inside.Marks.{IsUnder}
 

@@ -4,10 +4,9 @@ use Rattle.std.proofs.lemmas.List.{length-map}
 use Rattle.std.proofs.lemmas.List.Elements.{Contains-append_right}
 use Rattle.pad_text.specs.declared.name.Name.{Name}
 use Rattle.pad_graph.specs.Chain.{Link, top, IsChain, GoesThrough, IsLinkedName, IsAddedName}
-use Rattle.pad_graph.specs.Count.{NoRepeat}
+use Rattle.pad_list.specs.Number.{NoRepeat}
 use Rattle.pad_graph.specs.Graph.{LinksDiffer}
-use Rattle.pad_graph.proofs.Members.{contains_head, contains_more, contains_cases, contains_none, distinct_short}
-use Rattle.pad_graph.proofs.Numbers.{contains_map, mapped_from}
+use Rattle.pad_list.proofs.CallerLemmas.{contains_head, contains_more, contains_cases, contains_none, distinct_short, contains_map, mapped_from}
 use Rattle.pad_graph.proofs.Names.{name_dec}
 
 abbrev pub link_name : Link → Name

@@ -11,14 +11,13 @@ use Rattle.pad_graph.specs.declared.node.Mark.TheVariants as variant
 use Rattle.pad_graph.specs.declared.standing.Standing.{Standing}
 use Rattle.pad_graph.specs.declared.standing.Standing.TheVariants.{Unknown, Waiting, Linked, Gone}
 use Rattle.pad_graph.specs.Chain.{Link, top, IsChain, GoesThrough, IsLinkedName, IsKeptName, IsGoneName, IsWaitingName}
-use Rattle.pad_graph.specs.Count.{NoRepeat, IsNumberOf}
+use Rattle.pad_list.specs.Number.{NoRepeat, IsNumberOf}
 use Rattle.pad_graph.specs.Inside.Tables.{with_standing, is_among, height_in, height_of_standing}
 use Rattle.pad_graph.specs.State.{State, standing, standing_of, IsHeld, name_cmp}
 use Rattle.pad_graph.specs.Graph.{IsStanding, IsKept, AreChildren, Stands, AreDropped, IsDropped}
 use Rattle.pad_graph.specs.Inside.Hanging.{IsBranch, IsForest, AreHanging}
 use Rattle.pad_graph.specs.Inside.Steps.{Drops}
-use Rattle.pad_graph.proofs.Members.{contains_head, contains_more, contains_cases, contains_none}
-use Rattle.pad_graph.proofs.Numbers.{contains_map, mapped_from, number_none, number_same, number_less, number_listed, number_without}
+use Rattle.pad_list.proofs.CallerLemmas.{contains_head, contains_more, contains_cases, contains_none, contains_map, mapped_from, number_none, number_same, number_less, number_listed, number_without}
 use Rattle.pad_graph.proofs.Names.{name_equal, name_differs}
 use Rattle.pad_graph.proofs.Spreading.{name_of}
 use Rattle.pad_graph.proofs.Chains.{one_parent, chain_unique, chain_short, through_trans, through_dec}

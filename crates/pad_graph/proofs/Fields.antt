@@ -20,7 +20,7 @@ use Rattle.pad_graph.specs.Graph.{IsNewName, IsStanding, Stands}
 use Rattle.pad_graph.specs.Inside.Growth.{with_link, Enters}
 use Rattle.pad_graph.specs.Inside.Steps.{Undoes, Drops}
 use Rattle.pad_graph.proofs.Marked.{marked_same}
-use Rattle.pad_graph.proofs.Members.{contains_head, contains_more, distinct_short}
+use Rattle.pad_list.proofs.CallerLemmas.{contains_head, contains_more, distinct_short}
 use Rattle.pad_graph.proofs.Chains.{link_name, named}
 use Rattle.pad_graph.proofs.Growth.{link_known}
 use Rattle.pad_graph.specs.Inside.Marks.{kept_by}

@@ -12,13 +12,12 @@ use Rattle.pad_graph.specs.declared.node.Mark.TheVariants as variant
 use Rattle.pad_graph.specs.declared.standing.Standing.{Standing}
 use Rattle.pad_graph.specs.declared.standing.Standing.TheVariants.{Unknown, Waiting, Linked, Gone}
 use Rattle.pad_graph.specs.Chain.{Link, top, IsChain, GoesThrough, IsLinkedName, IsKeptName, IsGoneName, IsAddedName, IsWaitingName, BecomesLinked}
-use Rattle.pad_graph.specs.Count.{NoRepeat, IsNumberOf}
+use Rattle.pad_list.specs.Number.{NoRepeat, IsNumberOf}
 use Rattle.pad_graph.specs.Inside.Tables.{with_standing}
 use Rattle.pad_graph.specs.State.{State, standing, standing_of, name_cmp, marked_as}
 use Rattle.pad_graph.specs.Graph.{LinksDiffer, IsNewName, IsStanding, IsKept, IsNotGone, AreChildren, AreNewlyLinked, AreFound, IsLast, Stands}
 use Rattle.pad_graph.specs.Inside.Growth.{with_link, Enters}
-use Rattle.pad_graph.proofs.Members.{contains_head, contains_more, contains_cases, contains_none}
-use Rattle.pad_graph.proofs.Numbers.{contains_map, mapped_from, contains_append, no_repeat_push, number_same, number_more, number_less, number_with}
+use Rattle.pad_list.proofs.CallerLemmas.{contains_head, contains_more, contains_cases, contains_none, contains_map, mapped_from, contains_append, no_repeat_push, number_same, number_more, number_less, number_with}
 use Rattle.pad_graph.proofs.Names.{name_same, name_apart, name_equal}
 use Rattle.pad_graph.proofs.Spreading.{name_of}
 use Rattle.pad_graph.proofs.Chains.{link_name, named, added_in, chain_unique, chain_more, OnChain, chain_new}

@@ -1,5 +1,3 @@
-mod Members
-mod Numbers
 mod Names
 mod Entries
 mod Loops

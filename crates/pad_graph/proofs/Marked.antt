@@ -6,9 +6,8 @@ use Rattle.pad_graph.specs.declared.linking.Linking.{Linking}
 use Rattle.pad_graph.specs.declared.node.Node.{Node}
 use Rattle.pad_graph.specs.declared.node.Mark.{Mark}
 use Rattle.pad_graph.specs.Inside.Tables.{marked, with_standing}
-use Rattle.pad_graph.specs.Count.{NoRepeat}
-use Rattle.pad_graph.proofs.Members.{contains_none, contains_head, contains_more, contains_cases}
-use Rattle.pad_graph.proofs.Numbers.{contains_map}
+use Rattle.pad_list.specs.Number.{NoRepeat}
+use Rattle.pad_list.proofs.CallerLemmas.{contains_none, contains_head, contains_more, contains_cases, contains_map}
 use Rattle.pad_graph.proofs.Names.{name_equal, name_differs, name_dec}
 use Rattle.pad_graph.proofs.Spreading.{name_of}
 use Rattle.pad_graph.specs.State.{name_cmp, marked_as}

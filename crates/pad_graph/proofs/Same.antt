@@ -7,7 +7,7 @@ use Rattle.pad_graph.specs.Chain.{Link, IsChain, GoesThrough, IsLinkedName, IsKe
 use Rattle.pad_graph.specs.State.{standing}
 use Rattle.pad_graph.specs.Graph.{LinksDiffer, IsStanding, IsKept}
 use Rattle.pad_graph.specs.Laws.{GraphsTellTheSame, NewChainsHaveTheLink, HasLink}
-use Rattle.pad_graph.proofs.Numbers.{one_number}
+use Rattle.pad_list.proofs.CallerLemmas.{one_number}
 use Rattle.pad_graph.proofs.Chains.{chain_unique, OnChain, chain_new, through_down, through_up}
 use Rattle.pad_graph.proofs.Growth.{new_not_linked}
 

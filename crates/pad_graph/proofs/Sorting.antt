@@ -5,10 +5,9 @@ use Rattle.std.proofs.lemmas.List.{length-map}
 use Rattle.std.proofs.lemmas.List.Sorted.{IsPermutation-sym, Contains-permutation, length_permutation}
 use Rattle.pad_text.specs.declared.name.Name.{Name}
 use Rattle.pad_graph.specs.declared.linking.Linking.{Linking}
-use Rattle.pad_graph.specs.Count.{NoRepeat}
+use Rattle.pad_list.specs.Number.{NoRepeat}
 use Rattle.pad_graph.specs.Inside.Hanging.{AreHanging}
-use Rattle.pad_graph.proofs.Members.{contains_cases, Split, split, distinct_short}
-use Rattle.pad_graph.proofs.Numbers.{contains_map, mapped_from, no_repeat_without}
+use Rattle.pad_list.proofs.CallerLemmas.{contains_cases, Split, split, distinct_short, contains_map, mapped_from, no_repeat_without}
 use Rattle.pad_graph.proofs.Marked.{contains_dec}
 use Rattle.pad_graph.proofs.Spreading.{name_of}
 
@@ -30,7 +29,7 @@ same_once xs (y ∷ ys) once short sub = (λ c. too_many c, go (contains_dec xs 
         rest (us ++ vs) o (omega (arith, short, ap length e, length-append us (y ∷ vs), length-append us vs)) (λ x c. inside x (contains_cases y ys x (sub x (back us vs e x c))) (λ s. absurd (out (subst (Contains (us ++ vs)) (sym s) c))))
       where
         back : (us vs : List Name) → xs ≡ us ++ y ∷ vs → (x : Name) → Contains (us ++ vs) x → Contains xs x
-        back us vs e x c = subst (λ zs. Contains zs x) (sym e) (Rattle.pad_graph.proofs.Numbers.contains_around y x us vs c)
+        back us vs e x c = subst (λ zs. Contains zs x) (sym e) (Rattle.pad_list.proofs.CallerLemmas.contains_around y x us vs c)
 
     go : Contains xs y ⊎ (¬ (Contains xs y)) → ((zs : List Name) → NoRepeat zs → length ys ≤ length zs → ((x : Name) → Contains zs x → Contains ys x) → NoRepeat ys) → NoRepeat ys
     go (inl c) rest = let s = split y xs c in less s s.before s.after s.whole rest

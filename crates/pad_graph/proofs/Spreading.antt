@@ -5,10 +5,9 @@ use Rattle.std.proofs.lemmas.List.Elements.{Contains-append_left, Contains-appen
 use Rattle.pad_text.specs.declared.name.Name.{Name}
 use Rattle.pad_graph.specs.declared.linking.Linking.{Linking}
 use Rattle.pad_graph.specs.Chain.{top}
-use Rattle.pad_graph.specs.Count.{NoRepeat}
+use Rattle.pad_list.specs.Number.{NoRepeat}
 use Rattle.pad_graph.specs.Inside.Hanging.{linkings_of, IsBranch, IsForest, Hangs, AreHanging}
-use Rattle.pad_graph.proofs.Members.{contains_none, contains_head, contains_more, contains_cases, distinct_short}
-use Rattle.pad_graph.proofs.Numbers.{contains_map, mapped_from, no_repeat_front, contains_append, no_repeat_append}
+use Rattle.pad_list.proofs.CallerLemmas.{contains_none, contains_head, contains_more, contains_cases, distinct_short, contains_map, mapped_from, no_repeat_front, contains_append, no_repeat_append}
 use Rattle.pad_graph.proofs.Names.{name_same, name_apart}
 use Rattle.pad_graph.specs.State.{name_cmp}
 

@@ -9,12 +9,11 @@ use Rattle.pad_graph.specs.declared.node.Mark.TheVariants as variant
 use Rattle.pad_graph.specs.declared.standing.Standing.{Standing}
 use Rattle.pad_graph.specs.declared.standing.Standing.TheVariants.{Unknown, Waiting, Linked, Gone}
 use Rattle.pad_graph.specs.Chain.{Link, top, IsChain, GoesThrough, IsLinkedName, IsKeptName, IsAddedName, BecomesLinked}
-use Rattle.pad_graph.specs.Count.{NoRepeat, IsNumberOf}
+use Rattle.pad_list.specs.Number.{NoRepeat, IsNumberOf}
 use Rattle.pad_graph.specs.Inside.Tables.{parent_told}
 use Rattle.pad_graph.specs.State.{State, standing, standing_of, name_cmp}
 use Rattle.pad_graph.specs.Graph.{IsNewName, IsStanding, IsKept, IsParentOf, AreFound, Stands}
-use Rattle.pad_graph.proofs.Members.{contains_head, contains_none, contains_cases}
-use Rattle.pad_graph.proofs.Numbers.{number_none}
+use Rattle.pad_list.proofs.CallerLemmas.{contains_head, contains_none, contains_cases, number_none}
 use Rattle.pad_graph.proofs.Names.{name_same, name_apart}
 use Rattle.pad_graph.proofs.Chains.{chain_short, chain_unique, OnChain, chain_new}
 use Rattle.pad_graph.proofs.Growth.{new_not_linked}

@@ -8,7 +8,7 @@ use Rattle.pad_graph.specs.declared.node.Mark.{Mark}
 use Rattle.pad_graph.specs.declared.standing.Standing.{Standing}
 use Rattle.pad_graph.specs.declared.standing.Standing.TheVariants.{Unknown, Waiting, Linked, Gone}
 use Rattle.pad_graph.specs.Chain.{Link, top, IsChain, IsKeptName, IsGoneName, IsAddedName, IsWaitingName, BecomesLinked}
-use Rattle.pad_graph.specs.Count.{NoRepeat, IsNumberOf}
+use Rattle.pad_list.specs.Number.{NoRepeat, IsNumberOf}
 use Rattle.pad_graph.specs.State.{State, standing, marked_as}
 
 -- no name was added twice

@@ -1,6 +1,5 @@
 pub mod Added
 pub mod Chain
-pub mod Count
 pub mod Graph
 pub mod Inside
 pub mod Laws

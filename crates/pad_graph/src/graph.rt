@@ -10,7 +10,7 @@ ghost use Rattle.pad_graph.specs.declared.node.Mark.TheVariants.{Waiting as Wait
 ghost use Rattle.pad_graph.specs.declared.standing.Standing.TheVariants.{Unknown};
 ghost use Rattle.pad_graph.specs.Added.{IsAdded, HasName, links_after, linking_cmp};
 ghost use Rattle.pad_graph.specs.Chain.{Link, top, IsChain};
-ghost use Rattle.pad_graph.specs.Count.{IsNumberOf};
+ghost use Rattle.pad_list.specs.Number.{IsNumberOf};
 ghost use Rattle.pad_graph.specs.State.{state_of, standing, last_name, IsHeld};
 ghost use Rattle.pad_graph.specs.Graph.{IsStanding, IsParentOf, AreFound, Stands, AreDropped, IsDropped};
 ghost use Rattle.pad_graph.specs.Inside.Marks.{IsUnder, IsApart, kept_by};

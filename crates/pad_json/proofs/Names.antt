@@ -4,7 +4,7 @@ use Rattle.hex.specs.Hex.{encode_lower, lower_digits}
 use Rattle.hex.proofs.HexLemmas.{length-encode_with}
 use Rattle.pad_text.specs.Digits.{IsDigits}
 use Rattle.pad_text.specs.declared.name.Name.{Name}
-use Rattle.pad_text.proofs.HexDigits.{IsBytes-digits, IsDigits-bytes}
+use Rattle.pad_text.proofs.CallerLemmas.{IsBytes-digits, IsDigits-bytes}
 use Rattle.pad_json.specs.Name.{IsName}
 
 -- the digits of a name

@@ -7,7 +7,7 @@ use Rattle.hex.specs.Hex.{encode_lower}
 use Rattle.hex.proofs.HexLemmas.{decode_of-encode_lower, decode_of-same}
 use Rattle.pad_text.specs.declared.name.Name.{Name}
 use Rattle.pad_text.specs.Text.{IsText, units_of, utf8}
-use Rattle.pad_text.proofs.Texts.{units_of-utf8}
+use Rattle.pad_text.proofs.CallerLemmas.{units_of-utf8}
 use Rattle.pad_patch.specs.declared.operation.Operation.{Operation}
 use Rattle.pad_patch.specs.declared.patch.Patch.{Patch}
 use Rattle.pad_message.specs.declared.kind.Kind.{Kind}

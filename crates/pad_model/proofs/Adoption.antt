@@ -20,7 +20,7 @@ use Rattle.pad_model.specs.Sound.{interval_of, IsSound}
 use Rattle.pad_model.specs.Path.{last_name, text, interval, since_checkpoint, IsLinkedPath, EachSound, NamesDiffer}
 use Rattle.pad_model.specs.Best.{IsBetter}
 use Rattle.pad_model.specs.Laws.{AdoptionChangesNothing, CheckpointsCanBeAdopted}
-use Rattle.pad_model.proofs.Members.{contains_head, contains_more}
+use Rattle.pad_list.proofs.CallerLemmas.{contains_head, contains_more}
 use Rattle.pad_model.proofs.Chains.{linked_below, sound_below, linked_once}
 use Rattle.pad_model.proofs.Decide.{name_dec}
 

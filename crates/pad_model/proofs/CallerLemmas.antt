@@ -1,6 +1,4 @@
 -- What the proofs of other crates cite.
-pub use Rattle.pad_model.proofs.Members.{contains_head, contains_more, contains_cases, contains_none, distinct_short}
-pub use Rattle.pad_model.proofs.Numbers.{no_repeat_front, no_repeat_push, number_none, number_same, number_more, number_listed, number_without, number_by_key, contains_map, mapped_from, one_number}
 pub use Rattle.pad_model.proofs.Chains.{linked_more, path_more, linked_unique, linked_below, sound_below, linked_short}
 pub use Rattle.pad_model.proofs.Orders.{less_itself, never_better_itself, better_than, better_asym}
 pub use Rattle.pad_model.proofs.Chosen.{through_itself, through_trans, root_on_chosen, chosen_path}

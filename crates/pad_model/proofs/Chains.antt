@@ -3,8 +3,8 @@ use Rattle.std.proofs.Common.{◌≡◌, ◌≤◌, ◌⊎◌, inl, inr, List, [
 use Rattle.pad_message.specs.declared.message.Message.{Message}
 use Rattle.pad_model.specs.declared.base.Base.{Base}
 use Rattle.pad_model.specs.Path.{last_name, IsLinkedPath, EachSound, IsPath, NamesDiffer}
-use Rattle.pad_model.specs.Number.{NoRepeat}
-use Rattle.pad_model.proofs.Members.{contains_more, contains_cases, contains_none, Split, split, distinct_short}
+use Rattle.pad_list.specs.Number.{NoRepeat}
+use Rattle.pad_list.proofs.CallerLemmas.{contains_more, contains_cases, contains_none, Split, split, distinct_short}
 
 pub linked_more : (b : Base) (R S p : List Message) → ((m : Message) → Contains R m → Contains S m) → IsLinkedPath b R p → IsLinkedPath b S p
 linked_more b R S [] more h = tt

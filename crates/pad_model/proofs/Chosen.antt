@@ -6,10 +6,10 @@ use Rattle.pad_message.specs.Kind.{is_checkpoint}
 use Rattle.pad_model.specs.declared.base.Base.{Base}
 use Rattle.pad_model.specs.Path.{IsLinkedPath, IsPath, NamesDiffer}
 use Rattle.pad_model.specs.Best.{IsBetter, IsBest}
-use Rattle.pad_model.specs.Number.{IsNumberOf}
+use Rattle.pad_list.specs.Number.{IsNumberOf}
 use Rattle.pad_model.specs.Choice.{to_checkpoint, cut, higher, RunsThrough, Choice, Overtakes, IsChoice}
 use Rattle.pad_model.specs.Laws.{RootOnChosen, NeverWorse, StaysBest, NothingOvertook}
-use Rattle.pad_model.proofs.Members.{contains_more, contains_none}
+use Rattle.pad_list.proofs.CallerLemmas.{contains_more, contains_none}
 use Rattle.pad_model.proofs.Chains.{linked_more, path_more, linked_unique, differ_before}
 use Rattle.pad_model.proofs.Orders.{better_than, never_better_itself}
 

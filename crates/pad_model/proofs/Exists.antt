@@ -9,7 +9,7 @@ use Rattle.pad_model.specs.declared.base.Base.{Base}
 use Rattle.pad_model.specs.Path.{last_name, IsSoundOn, IsLinkedPath, EachSound, IsPath, NamesDiffer}
 use Rattle.pad_model.specs.Best.{IsBetter, IsBest}
 use Rattle.pad_model.specs.Laws.{OneBestExists}
-use Rattle.pad_model.proofs.Members.{contains_head, contains_more, contains_cases, contains_none}
+use Rattle.pad_list.proofs.CallerLemmas.{contains_head, contains_more, contains_cases, contains_none}
 use Rattle.pad_model.proofs.Chains.{linked_unique, linked_short}
 use Rattle.pad_model.proofs.Orders.{never_better_itself, better_than, better_asym}
 use Rattle.pad_model.proofs.Decide.{name_dec, less_dec, sound_dec}

@@ -1,5 +1,3 @@
-mod Members
-mod Numbers
 mod Chains
 mod Orders
 mod OneBest

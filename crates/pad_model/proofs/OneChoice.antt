@@ -7,7 +7,7 @@ use Rattle.pad_model.specs.Choice.{cut, higher, IsBestThrough, Choice, Overtakes
 use Rattle.pad_model.specs.Laws.{AtMostOneChoice}
 use Rattle.pad_model.proofs.Chains.{linked_unique, differ_before}
 use Rattle.pad_model.proofs.Orders.{neither_better}
-use Rattle.pad_model.proofs.Numbers.{one_number}
+use Rattle.pad_list.proofs.CallerLemmas.{one_number}
 
 one_through : (b : Base) (R r p q : List Message) → NamesDiffer R → IsBestThrough b R r p → IsBestThrough b R r q → p ≡ q
 one_through b R r p q d h g = linked_unique b R p q d h.path.0 g.path.0 (neither_better b p q (g.none_better p h.path h.through) (h.none_better q g.path g.through))

@@ -4,10 +4,10 @@ use Rattle.std.proofs.lemmas.List.Elements.{Contains-append_cases}
 use Rattle.pad_message.specs.declared.message.Message.{Message}
 use Rattle.pad_model.specs.declared.base.Base.{Base}
 use Rattle.pad_model.specs.Path.{IsLinked}
-use Rattle.pad_model.specs.Number.{NoRepeat}
+use Rattle.pad_list.specs.Number.{NoRepeat}
 use Rattle.pad_model.specs.Choice.{Choice, IsChoice}
 use Rattle.pad_model.specs.Laws.{FewOvertake}
-use Rattle.pad_model.proofs.Members.{contains_head, contains_more, contains_none, distinct_short}
+use Rattle.pad_list.proofs.CallerLemmas.{contains_head, contains_more, contains_none, distinct_short}
 use Rattle.pad_model.proofs.Chains.{linked_more}
 
 no_repeat_append : {A : Type 0} (xs ys : List A) → NoRepeat xs → NoRepeat ys → ((x : A) → Contains xs x → ¬ (Contains ys x)) → NoRepeat (xs ++ ys)

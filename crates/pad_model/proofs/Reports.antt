@@ -10,9 +10,8 @@ use Rattle.pad_model.specs.Choice.{Choice, IsChoice, IsNextChoice, Overtakes, Is
 use Rattle.pad_model.specs.Count.{IsKnown, IsWaiting, IsKept, AreCounts}
 use Rattle.pad_model.specs.Report.{report_lines, report_values, IsReport}
 use Rattle.pad_model.specs.Laws.{SameMembers, AtMostOneReport, RepeatChangesNoReport, OrderChangesNoBest}
-use Rattle.pad_model.proofs.Members.{contains_head, contains_more, contains_cases, contains_none, contains_middle}
+use Rattle.pad_list.proofs.CallerLemmas.{contains_head, contains_more, contains_cases, contains_none, contains_middle, one_number, number_same, contains_around}
 use Rattle.pad_model.proofs.Chains.{linked_more, path_more, differ_before}
-use Rattle.pad_model.proofs.Numbers.{one_number, number_same, contains_around}
 use Rattle.pad_model.proofs.OneBest.{one_best, same_members}
 use Rattle.pad_model.proofs.OneChoice.{one_next, one_choice}
 use Rattle.pad_model.proofs.Chosen.{nothing_overtook}

@@ -6,7 +6,7 @@ use Rattle.pad_model.specs.declared.base.Base.{Base}
 use Rattle.pad_model.specs.Path.{IsLinkedPath}
 use Rattle.pad_model.specs.Choice.{cut, higher, Choice, IsChoice}
 use Rattle.pad_model.specs.Laws.{StaysChosen, NothingLinks, RepeatChangesNoChoice}
-use Rattle.pad_model.proofs.Members.{contains_more, contains_cases, contains_none}
+use Rattle.pad_list.proofs.CallerLemmas.{contains_more, contains_cases, contains_none}
 use Rattle.pad_model.proofs.Chains.{linked_more, path_more}
 use Rattle.pad_model.proofs.Roots.{best_through_its_root}
 

@@ -6,7 +6,7 @@ use Rattle.pad_message.specs.Kind.{is_checkpoint}
 use Rattle.pad_model.specs.declared.base.Base.{Base}
 use Rattle.pad_model.specs.Path.{IsLinkedPath, IsPath, IsLinked}
 use Rattle.pad_model.specs.Best.{IsBetter}
-use Rattle.pad_model.specs.Number.{IsNumberOf}
+use Rattle.pad_list.specs.Number.{IsNumberOf}
 
 -- the path up to its last checkpoint, this one included; the base alone if it has none
 abbrev pub to_checkpoint : List Message → List Message

@@ -5,7 +5,7 @@ use Rattle.pad_message.specs.declared.message.Message.{Message}
 use Rattle.pad_message.specs.Message.{name_of}
 use Rattle.pad_model.specs.declared.base.Base.{Base}
 use Rattle.pad_model.specs.Path.{IsLinkedPath, IsLinked}
-use Rattle.pad_model.specs.Number.{IsNumberOf}
+use Rattle.pad_list.specs.Number.{IsNumberOf}
 use Rattle.pad_model.specs.Choice.{RunsThrough}
 
 -- a message received has this name, which is not the base's

@@ -8,7 +8,7 @@ use Rattle.pad_model.specs.declared.base.Base.{Base}
 use Rattle.pad_model.specs.Base.{Gives}
 use Rattle.pad_model.specs.Path.{text, IsLinkedPath, IsPath, IsLinkedAt, NamesDiffer}
 use Rattle.pad_model.specs.Best.{IsBetter, IsBest}
-use Rattle.pad_model.specs.Number.{IsNumberOf}
+use Rattle.pad_list.specs.Number.{IsNumberOf}
 use Rattle.pad_model.specs.Choice.{RunsThrough, IsBestThrough, Choice, Overtakes, IsNextChoice, IsChoice}
 use Rattle.pad_model.specs.Report.{IsReport}
 

@@ -2,7 +2,6 @@ pub mod Sound
 pub mod Base
 pub mod Path
 pub mod Best
-pub mod Number
 pub mod Choice
 pub mod Count
 pub mod Report

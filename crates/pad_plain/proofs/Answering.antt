@@ -18,7 +18,8 @@ use Rattle.pad_plain.specs.Inside.Links.{IsCandidate, AreLinkedOf}
 use Rattle.pad_plain.specs.Inside.Through.{IsRoot, IsThroughTo}
 use Rattle.pad_plain.specs.Inside.Chosen.{IsChosenAs}
 use Rattle.pad_plain.specs.Inside.Among.{IsSaidOf}
-use Rattle.pad_model.proofs.CallerLemmas.{linked_more, contains_map, mapped_from}
+use Rattle.pad_list.proofs.CallerLemmas.{contains_map, mapped_from}
+use Rattle.pad_model.proofs.CallerLemmas.{linked_more}
 use Rattle.pad_plain.proofs.Places.{some_same, member_at}
 use Rattle.pad_plain.proofs.Choosing.{told_path}
 use Rattle.pad_plain.proofs.Stepping.{newest_first}

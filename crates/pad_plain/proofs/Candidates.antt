@@ -17,17 +17,16 @@ use Rattle.pad_model.specs.declared.base.Base.{Base}
 use Rattle.pad_plain.specs.declared.candidate.Candidate.{Candidate}
 use Rattle.pad_plain.specs.declared.links.Links.{Links}
 use Rattle.pad_model.specs.Path.{IsLinkedPath, IsLinked, NamesDiffer}
-use Rattle.pad_model.specs.Number.{NoRepeat, IsNumberOf}
+use Rattle.pad_list.specs.Number.{NoRepeat, IsNumberOf}
 use Rattle.pad_model.specs.Count.{IsKnown, IsWaiting}
 use Rattle.pad_plain.specs.Messages.{IsPlaceOf}
 use Rattle.pad_plain.specs.Inside.Table.{name_cmp, IsTableOf}
 use Rattle.pad_plain.specs.Inside.Walk.{messages_at, LeadsTo}
 use Rattle.pad_plain.specs.Inside.Links.{IsCandidate, AreLinks}
-use Rattle.pad_model.proofs.CallerLemmas.{contains_head, contains_more, contains_cases, contains_none}
+use Rattle.pad_list.proofs.CallerLemmas.{contains_head, contains_more, contains_cases, contains_none, no_repeat_front, no_repeat_push, number_none, number_same, number_more, number_listed, number_without, mapped_from}
 use Rattle.pad_model.proofs.CallerLemmas.{less_itself}
 use Rattle.pad_plain.proofs.Tables.{name_same}
 use Rattle.pad_plain.proofs.Places.{messages_length, member_at, place_of, get_take, take_get, take_member}
-use Rattle.pad_model.proofs.CallerLemmas.{no_repeat_front, no_repeat_push, number_none, number_same, number_more, number_listed, number_without, mapped_from}
 
 pub candidate_from : (b : Base) (R : List Message) (place : ℕ) (v : List ℕ) (n : ℕ) (name : Name) → LeadsTo b R place (messages_at R v) → All (λ i. i < length R) v → n ≡ length v → ((m : Message) → slice_get R place ≡ Some m → name_of m ≡ name) → IsCandidate b R (record { height = record { 0 = n }; name = name; place = place })
 candidate_from b R place v n name to within e named = record {

@@ -8,14 +8,14 @@ use Rattle.pad_message.specs.Message.{name_of}
 use Rattle.pad_model.specs.declared.base.Base.{Base}
 use Rattle.pad_model.specs.Path.{IsLinkedPath, IsLinked, NamesDiffer}
 use Rattle.pad_model.specs.Best.{IsBetter}
-use Rattle.pad_model.specs.Number.{NoRepeat, IsNumberOf}
+use Rattle.pad_list.specs.Number.{NoRepeat, IsNumberOf}
 use Rattle.pad_model.specs.Choice.{RunsThrough, Choice, Overtakes}
 use Rattle.pad_model.specs.Count.{IsKept}
 use Rattle.pad_plain.specs.declared.candidate.Candidate.{Candidate}
 use Rattle.pad_plain.specs.Inside.Candidate.{names_of}
 use Rattle.pad_plain.specs.Inside.Links.{IsCandidate, HasEveryLinked}
 use Rattle.pad_plain.specs.Inside.Among.{IsSaidOf}
-use Rattle.pad_model.proofs.CallerLemmas.{contains_none, no_repeat_front, number_none, number_same, number_more, contains_map, mapped_from}
+use Rattle.pad_list.proofs.CallerLemmas.{contains_none, no_repeat_front, number_none, number_same, number_more, contains_map, mapped_from}
 use Rattle.pad_plain.proofs.Places.{member_at}
 
 -- it has one of these names, and P holds of it

@@ -11,7 +11,7 @@ use Rattle.pad_model.specs.declared.base.Base.{Base}
 use Rattle.pad_model.specs.Path.{IsLinkedPath, IsLinked, NamesDiffer}
 use Rattle.pad_plain.specs.Messages.{IsPlaceOf}
 use Rattle.pad_plain.specs.Inside.Walk.{messages_at, IsParentPlace, AreParentPlaces, LeadsTo}
-use Rattle.pad_model.proofs.CallerLemmas.{contains_more}
+use Rattle.pad_list.proofs.CallerLemmas.{contains_more}
 use Rattle.pad_model.proofs.CallerLemmas.{linked_below, linked_short}
 
 -- ---- elements by their places

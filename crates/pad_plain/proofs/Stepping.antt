@@ -5,7 +5,7 @@ use Rattle.std.proofs.lemmas.List.Elements.{Contains-push_cases, Contains-push, 
 use Rattle.pad_message.specs.declared.message.Message.{Message}
 use Rattle.pad_model.specs.declared.base.Base.{Base}
 use Rattle.pad_model.specs.Path.{IsLinkedPath, IsPath, NamesDiffer}
-use Rattle.pad_model.specs.Number.{IsNumberOf}
+use Rattle.pad_list.specs.Number.{IsNumberOf}
 use Rattle.pad_model.specs.Choice.{cut, higher, IsBestThrough, Choice, Overtakes, IsNextChoice, IsChoice}
 use Rattle.pad_model.specs.Laws.{SameMembers}
 use Rattle.pad_plain.specs.declared.choice.Chosen.{Chosen}
@@ -15,7 +15,8 @@ use Rattle.pad_plain.specs.Tip.{IsTipOf}
 use Rattle.pad_plain.specs.Inside.Walk.{messages_at}
 use Rattle.pad_plain.specs.Inside.Through.{IsRoot, IsPathThrough, IsBestFound}
 use Rattle.pad_plain.specs.Inside.Chosen.{IsChosenAs, IsChosen}
-use Rattle.pad_model.proofs.CallerLemmas.{contains_head, contains_more, contains_cases, linked_more, path_more, linked_below, through_trans, root_on_chosen, chosen_path, same_reversed, next_same, through_same, few_overtake}
+use Rattle.pad_list.proofs.CallerLemmas.{contains_head, contains_more, contains_cases}
+use Rattle.pad_model.proofs.CallerLemmas.{linked_more, path_more, linked_below, through_trans, root_on_chosen, chosen_path, same_reversed, next_same, through_same, few_overtake}
 use Rattle.pad_plain.proofs.Places.{messages_front, found_at, take_member}
 
 -- the messages received, in their order, and with the newest first

@@ -4,7 +4,7 @@ ghost use Rattle.std.specs.Prelude.{◌≡◌, ◌≤◌, List, length, map, IfO
 ghost use Rattle.pad_message.specs.declared.message.Message.{Message};
 ghost use Rattle.pad_message.specs.Message.{name_of};
 ghost use Rattle.pad_model.specs.Path.{NamesDiffer};
-ghost use Rattle.pad_model.specs.Number.{NoRepeat, IsNumberOf};
+ghost use Rattle.pad_list.specs.Number.{NoRepeat, IsNumberOf};
 ghost use Rattle.pad_model.specs.Count.{IsKept};
 ghost use Rattle.pad_plain.specs.Inside.Walk.{AreParentPlaces};
 ghost use Rattle.pad_plain.specs.Inside.Links.{IsCandidate, HasEveryLinked};

@@ -32,7 +32,7 @@ impl Model for Messages {
 
 impl Messages {
     ghost use Rattle.pad_message.specs.Message.{name_of};
-    ghost use Rattle.pad_model.specs.Number.{IsNumberOf};
+    ghost use Rattle.pad_list.specs.Number.{IsNumberOf};
     ghost use Rattle.pad_model.specs.Count.{IsKnown};
     ghost use Rattle.pad_plain.specs.Messages.{IsPlaceOf};
     ghost use Rattle.pad_plain.specs.Inside.Table.{IsTableOf};

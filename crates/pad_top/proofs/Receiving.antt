@@ -10,10 +10,10 @@ use Rattle.pad_model.specs.declared.base.Base.{Base}
 use Rattle.pad_model.specs.Path.{NamesDiffer}
 use Rattle.pad_model.specs.Report.{IsReport}
 use Rattle.pad_model.specs.Base.{first_base}
-use Rattle.pad_model.specs.Number.{NoRepeat, IsNumberOf}
+use Rattle.pad_list.specs.Number.{NoRepeat, IsNumberOf}
 use Rattle.pad_model.specs.Count.{IsKnown}
 use Rattle.pad_plain.specs.Messages.{IsPlaceOf}
-use Rattle.pad_model.proofs.CallerLemmas.{contains_head, contains_more, contains_none, distinct_short}
+use Rattle.pad_list.proofs.CallerLemmas.{contains_head, contains_more, contains_none, distinct_short}
 use Rattle.pad_top.specs.Received.{most_names, HasFewNames, IsOneTooMany}
 use Rattle.pad_top.specs.Inside.Progress.{Progress, IsInside, IsFull, HasRoom, TestsRoom}
 

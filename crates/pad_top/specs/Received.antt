@@ -8,7 +8,7 @@ use Rattle.pad_message.specs.Message.{name_of}
 use Rattle.pad_message.specs.Content.{Reads}
 use Rattle.pad_top.specs.declared.received.TheConstants.{MOST_NAMES}
 use Rattle.pad_model.specs.Base.{first_base}
-use Rattle.pad_model.specs.Number.{NoRepeat, IsNumberOf}
+use Rattle.pad_list.specs.Number.{NoRepeat, IsNumberOf}
 use Rattle.pad_model.specs.Count.{IsKnown}
 
 -- the most different names that a replay receives, the base's excepted

@@ -4,7 +4,7 @@ use Rattle.pad_message.specs.declared.message.Message.{Message}
 use Rattle.pad_message.specs.Message.{name_of}
 use Rattle.pad_model.specs.declared.base.Base.{Base}
 use Rattle.pad_model.specs.Path.{IsLinkedPath, IsLinked}
-use Rattle.pad_model.specs.Number.{NoRepeat, IsNumberOf}
+use Rattle.pad_list.specs.Number.{NoRepeat, IsNumberOf}
 use Rattle.pad_model.specs.Count.{IsWaiting}
 use Rattle.pad_plain.specs.declared.candidate.Candidate.{Candidate}
 use Rattle.pad_plain.specs.declared.links.Links.{Links}

@@ -8,7 +8,7 @@ use Rattle.pad_message.specs.Message.{name_of}
 use Rattle.pad_message.specs.Content.{longest_content, without_mark}
 use Rattle.pad_model.specs.declared.base.Base.{Base}
 use Rattle.pad_model.specs.Base.{first_base}
-use Rattle.pad_model.specs.Number.{IsNumberOf}
+use Rattle.pad_list.specs.Number.{IsNumberOf}
 use Rattle.pad_model.specs.Count.{IsKnown}
 use Rattle.pad_top.specs.declared.refused.ReplayRefused.{ReplayRefused}
 use Rattle.pad_top.specs.declared.refused.ReplayRefused.TheVariants as refused

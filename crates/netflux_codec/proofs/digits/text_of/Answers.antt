@@ -1,4 +1,4 @@
-use Rattle.pad_text.proofs.HexDigits.{IsUtf8-digits}
+use Rattle.pad_text.proofs.CallerLemmas.{IsUtf8-digits}
 use Rattle.netflux_codec.proofs.digits.text_of.Goals as goal
 
 pub returns-in-Err : goal.returns-in-Err

@@ -3,7 +3,7 @@ use Rattle.serde_json.specs.Data.{string}
 use Rattle.serde_json.specs.View.{view}
 use Rattle.serde_json.specs.declared.value.Value.{the_lemmas}
 use Rattle.pad_text.specs.Text.{utf8, units_of}
-use Rattle.pad_text.proofs.Texts.{utf8-units_of}
+use Rattle.pad_text.proofs.CallerLemmas.{utf8-units_of}
 use Rattle.pad_message.proofs.reading.text_from.Goals as goal
 
 pub returns-clause-ok : goal.returns-clause-ok

@@ -5,7 +5,7 @@ use Rattle.std.proofs.lemmas.Option.{slice_get-get_or, slice_get_within}
 use Rattle.pad_text.specs.declared.name.Name.{Name}
 use Rattle.pad_plain.specs.declared.candidate.Candidate.{Candidate}
 use Rattle.pad_plain.specs.Inside.Candidate.{names_of}
-use Rattle.pad_model.proofs.CallerLemmas.{contains_map, mapped_from}
+use Rattle.pad_list.proofs.CallerLemmas.{contains_map, mapped_from}
 use Rattle.pad_plain.proofs.Places.{some_same, member_at, place_of, name_yes, name_no}
 use Rattle.pad_plain.proofs.candidate.is_among.Goals as goal
 

@@ -1,7 +1,7 @@
 use Rattle.std.proofs.Common.{◌≡◌, ◌∙◌, ◌+◌, ◌<◌, ◌≤◌, ◌^◌, length, take, ap, sym, subst, arith}
 use Rattle.std.proofs.lemmas.List.{length-take-le}
 use Rattle.pad_model.specs.Path.{NamesDiffer}
-use Rattle.pad_model.specs.Number.{NoRepeat}
+use Rattle.pad_list.specs.Number.{NoRepeat}
 use Rattle.pad_model.specs.Choice.{cut, higher}
 use Rattle.pad_plain.specs.Tip.{IsTipOf}
 use Rattle.pad_plain.specs.Inside.Walk.{messages_at}

@@ -1,7 +1,7 @@
 use Rattle.std.proofs.Common.{◌≤◌, List, take}
 use Rattle.pad_message.specs.declared.message.Message.{Message}
 use Rattle.pad_model.specs.Path.{NamesDiffer}
-use Rattle.pad_model.specs.Number.{IsNumberOf}
+use Rattle.pad_list.specs.Number.{IsNumberOf}
 use Rattle.pad_model.specs.Count.{IsKept}
 use Rattle.pad_plain.specs.Inside.Candidate.{names_of}
 use Rattle.pad_plain.specs.Inside.Through.{IsRoot}

@@ -2,7 +2,7 @@ use Rattle.std.proofs.Common.{◌≡◌, Some, None, sym, ap, ◌∙◌, subst}
 use Rattle.std.specs.BTreeMap.{get}
 use Rattle.pad_graph.specs.State.{state_of, name_cmp}
 use Rattle.pad_graph.specs.Graph.{Stands}
-use Rattle.pad_graph.proofs.Members.{contains_none}
+use Rattle.pad_list.proofs.CallerLemmas.{contains_none}
 use Rattle.pad_graph.proofs.Starting.{known_name, node_none}
 use Rattle.pad_graph.proofs.Fields.{fresh_by, some_node, no_node}
 use Rattle.pad_graph.proofs.graph.Graph.add.Goals as goal

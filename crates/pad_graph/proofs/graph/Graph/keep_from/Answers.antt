@@ -2,7 +2,7 @@ use Rattle.std.proofs.Common.{◌≡◌, ◌≢◌, zero, suc, ℕ, ◌-◌, ◌
 use Rattle.std.specs.BTreeMap.{get}
 use Rattle.pad_text.specs.declared.name.Name.{Name}
 use Rattle.pad_graph.specs.declared.node.Mark.TheVariants.{Gone}
-use Rattle.pad_graph.specs.Count.{IsNumberOf}
+use Rattle.pad_list.specs.Number.{IsNumberOf}
 use Rattle.pad_graph.specs.Inside.Tables.{names_in, marked, is_among}
 use Rattle.pad_graph.specs.State.{state_of, standing, IsHeld, name_cmp}
 use Rattle.pad_graph.specs.Inside.Fields.{tables_of}

@@ -8,7 +8,7 @@ use Rattle.pad_graph.proofs.Branches.{forest, found_on}
 use Rattle.pad_graph.proofs.Chains.{link_name}
 use Rattle.pad_graph.proofs.Fields.{fresh_by, hanging_listed, forest_listed}
 use Rattle.pad_graph.proofs.Sorting.{sorted_hanging}
-use Rattle.pad_graph.proofs.Numbers.{contains_map}
+use Rattle.pad_list.proofs.CallerLemmas.{contains_map}
 use Rattle.pad_graph.proofs.Spreading.{name_of}
 use Rattle.pad_graph.specs.Added.{HasName}
 use Rattle.pad_graph.proofs.graph.Graph.link.Goals as goal

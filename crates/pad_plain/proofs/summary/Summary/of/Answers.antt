@@ -2,7 +2,7 @@ use Rattle.std.proofs.Common.{◌≡◌, ◌∙◌, List, length, take, ap, ap�
 use Rattle.std.proofs.Math.Seq.{take-length}
 use Rattle.pad_message.specs.declared.message.Message.{Message}
 use Rattle.pad_model.specs.Path.{NamesDiffer, EachSound, text}
-use Rattle.pad_model.specs.Number.{NoRepeat, IsNumberOf}
+use Rattle.pad_list.specs.Number.{NoRepeat, IsNumberOf}
 use Rattle.pad_model.specs.Count.{IsWaiting, IsKept}
 use Rattle.pad_plain.specs.Inside.Walk.{messages_at}
 use Rattle.pad_plain.specs.Inside.Candidate.{names_of}

@@ -1,9 +1,9 @@
 -- How many different things there are: one more, the same, and as many as the keys that tell them apart.
-use Rattle.std.proofs.Common.{◌≡◌, ◌≢◌, ◌↔◌, ℕ, ◌+◌, ◌-◌, ◌⊎◌, inl, inr, List, [], ◌∷◌, ◌++◌, length, map, Contains, refl, sym, ap, ap₂, ◌∙◌, subst, arith, length-append}
+use Rattle.std.proofs.Common.{◌≡◌, ◌≢◌, ◌↔◌, ℕ, ◌+◌, ◌-◌, ◌≤◌, ◌⊎◌, inl, inr, List, [], ◌∷◌, ◌++◌, length, map, Contains, refl, sym, ap, ap₂, ◌∙◌, subst, arith, length-append}
 use Rattle.std.proofs.lemmas.List.{length-map}
-use Rattle.std.proofs.lemmas.List.Elements.{Contains-append_right, Contains-push_cases}
-use Rattle.pad_model.specs.Number.{NoRepeat, IsNumberOf}
-use Rattle.pad_model.proofs.Members.{contains_head, contains_more, contains_cases, contains_none, contains_middle, Split, split, distinct_short}
+use Rattle.std.proofs.lemmas.List.Elements.{Contains-append_left, Contains-append_right, Contains-push_cases}
+use Rattle.pad_list.specs.Number.{NoRepeat, IsNumberOf}
+use Rattle.pad_list.proofs.Members.{contains_head, contains_more, contains_cases, contains_none, contains_middle, Split, split, distinct_short}
 
 -- ---- lists without repeats
 
@@ -31,7 +31,7 @@ contains_around {A = A} x z (u ∷ us) vs h = go (contains_cases u (us ++ vs) z 
     go (inl e) rest = subst (Contains (u ∷ us ++ x ∷ vs)) e (contains_head u (us ++ x ∷ vs))
     go (inr k) rest = contains_more u (us ++ x ∷ vs) z (rest k)
 
-no_repeat_without : {A : Type 0} (x : A) (us vs : List A) → NoRepeat (us ++ x ∷ vs) → NoRepeat (us ++ vs) × ¬ (Contains (us ++ vs) x)
+pub no_repeat_without : {A : Type 0} (x : A) (us vs : List A) → NoRepeat (us ++ x ∷ vs) → NoRepeat (us ++ vs) × ¬ (Contains (us ++ vs) x)
 no_repeat_without x [] vs h = (h.1, h.0)
 no_repeat_without {A = A} x (u ∷ us) vs h = go (no_repeat_without x us vs h.1)
   where
@@ -113,6 +113,59 @@ mapped_from {X = X} {Y = Y} f (z ∷ xs) y h = go (contains_cases (f z) (map f x
 no_repeat_by : {X Y : Type 0} (f : X → Y) (xs : List X) → NoRepeat (map f xs) → NoRepeat xs
 no_repeat_by f [] h = tt
 no_repeat_by f (x ∷ xs) h = (λ c. h.0 (contains_map f xs x c), no_repeat_by f xs h.1)
+
+pub contains_append : {A : Type 0} (xs ys : List A) (x : A) → Contains (xs ++ ys) x → Contains xs x ⊎ Contains ys x
+contains_append [] ys x c = inr c
+contains_append {A = A} (y ∷ xs) ys x c = go (contains_cases y (xs ++ ys) x c) (contains_append xs ys x)
+  where
+    go : (y ≡ x) ⊎ Contains (xs ++ ys) x → (Contains (xs ++ ys) x → Contains xs x ⊎ Contains ys x) → Contains (y ∷ xs) x ⊎ Contains ys x
+    go (inl e) rest = inl (subst (Contains (y ∷ xs)) e (contains_head y xs))
+    go (inr k) rest = more (rest k)
+      where
+        more : Contains xs x ⊎ Contains ys x → Contains (y ∷ xs) x ⊎ Contains ys x
+        more (inl a) = inl (contains_more y xs x a)
+        more (inr b) = inr b
+
+pub no_repeat_append : {A : Type 0} (xs ys : List A) → NoRepeat xs → NoRepeat ys → ((x : A) → Contains xs x → ¬ (Contains ys x)) → NoRepeat (xs ++ ys)
+no_repeat_append [] ys h g apart = g
+no_repeat_append {A = A} (x ∷ xs) ys h g apart = (λ c. go (contains_append xs ys x c), no_repeat_append xs ys h.1 g (λ z c. apart z (contains_more x xs z c)))
+  where
+    go : Contains xs x ⊎ Contains ys x → ⊥
+    go (inl c) = h.0 c
+    go (inr c) = apart x (contains_head x xs) c
+
+-- less the members of a list, and more by those of a list
+pub number_less : {A : Type 0} (P : A → Type 0) (n : ℕ) (xs : List A) → NoRepeat xs → ((x : A) → Contains xs x → P x) → IsNumberOf P n → (length xs ≤ n) × IsNumberOf (λ x. P x × ¬ (Contains xs x)) (n - length xs)
+number_less P n [] once sub h = (omega arith, subst (IsNumberOf (λ x. P x × ¬ (Contains [] x))) (omega arith) (number_same P (λ x. P x × ¬ (Contains [] x)) n (λ x. (λ p. (p, contains_none x), λ p. p.0)) h))
+number_less {A = A} P n (x ∷ xs) once sub h =
+    let in_all = (h.these x).1 (sub x (contains_head x xs)) in
+    let some : 1 ≤ n = omega (arith, h.many, in_all.1) in
+    let less = number_same (λ y. Contains h.all y × (y ≢ x)) (λ y. P y × (y ≢ x)) (length h.all - 1) (λ y. (λ p. ((h.these y).0 p.0, p.1), λ p. ((h.these y).1 p.0, p.1))) (number_without h.all x h.once in_all) in
+    let rest = number_less (λ y. P y × (y ≢ x)) (length h.all - 1) xs once.1 (λ y c. (sub y (contains_more x xs y c), λ e. once.0 (subst (Contains xs) e c))) less in (
+      omega (arith, rest.0, h.many, some),
+      subst (IsNumberOf (λ y. P y × ¬ (Contains (x ∷ xs) y))) (omega (arith, h.many, some))
+          (number_same (λ y. (P y × (y ≢ x)) × ¬ (Contains xs y)) (λ y. P y × ¬ (Contains (x ∷ xs) y)) (length h.all - 1 - length xs) (λ y. (λ p. (p.0.0, λ c. neither y p.0.1 p.1 (contains_cases x xs y c)), λ p. ((p.0, λ e. p.1 (subst (Contains (x ∷ xs)) (sym e) (contains_head x xs))), λ c. p.1 (contains_more x xs y c)))) rest.1),
+    )
+  where
+    neither : (y : A) → (y ≢ x) → ¬ (Contains xs y) → (x ≡ y) ⊎ Contains xs y → ⊥
+    neither y n k (inl e) = n (sym e)
+    neither y n k (inr c) = k c
+
+pub number_with : {A : Type 0} (P : A → Type 0) (n : ℕ) (xs : List A) → NoRepeat xs → ((x : A) → Contains xs x → ¬ (P x)) → IsNumberOf P n → IsNumberOf (λ x. Contains xs x ⊎ P x) (n + length xs)
+number_with {A = A} P n xs once apart h = record {
+  all = xs ++ h.all;
+  once = no_repeat_append xs h.all once h.once (λ x c k. apart x c ((h.these x).0 k));
+  these = λ x. (λ c. to x (contains_append xs h.all x c), from x);
+  many = omega (arith, h.many, length-append xs h.all);
+}
+  where
+    to : (x : A) → Contains xs x ⊎ Contains h.all x → Contains xs x ⊎ P x
+    to x (inl c) = inl c
+    to x (inr c) = inr ((h.these x).0 c)
+
+    from : (x : A) → Contains xs x ⊎ P x → Contains (xs ++ h.all) x
+    from x (inl c) = Contains-append_left xs h.all x c
+    from x (inr p) = Contains-append_right xs h.all x ((h.these x).1 p)
 
 -- things of P with these keys, in their order
 record Picked {X Y : Type 0} (f : X → Y) (P : X → Type 0) (all : List Y) : Type 0 where

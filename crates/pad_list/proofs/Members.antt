@@ -1,6 +1,6 @@
 -- Members of lists, and lists without repeats.
 use Rattle.std.proofs.Common.{◌≡◌, zero, suc, ◌≤◌, ◌⊎◌, inl, inr, List, [], ◌∷◌, ◌++◌, length, Contains, refl, sym, ap, subst, arith, length-append}
-use Rattle.pad_model.specs.Number.{NoRepeat}
+use Rattle.pad_list.specs.Number.{NoRepeat}
 
 pub contains_head : {A : Type 0} (x : A) (xs : List A) → Contains (x ∷ xs) x
 contains_head x xs = (0, omega arith, refl)

@@ -12,3 +12,7 @@ pub record IsNumberOf {A : Type 0} (P : A → Type 0) (number : ℕ) : Type 0 wh
   pub once : NoRepeat all
   pub these : (x : A) → Contains all x ↔ P x
   pub many : number ≡ length all
+
+-- the same numbers are counted once
+abbrev pub OneNumber : Type 0
+OneNumber = (all : List ℕ) (one other : ℕ) → IsNumberOf (Contains all) one → IsNumberOf (Contains all) other → one ≡ other

@@ -1,0 +1,3 @@
+mod Members
+mod Numbers
+pub mod CallerLemmas
