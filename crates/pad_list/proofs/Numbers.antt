@@ -197,3 +197,73 @@ number_by_key {X = X} f P keys once one things key =
   where
     found : (things : List X) → ((x : X) → Contains things x → P x) → (x : X) → P x → (z : X) × Contains things z × (f z ≡ f x) → Contains things x
     found things good x p (z, c, e) = subst (Contains things) (one z x (good z c) p e) c
+
+-- ---- what can be decided
+
+pub contains_dec : {A : Type 0} (xs : List A) (x : A) → ((y : A) → Contains xs y → Dec (y ≡ x)) → Dec (Contains xs x)
+contains_dec [] x same = no (contains_none x)
+contains_dec {A = A} (y ∷ xs) x same = go (same y (contains_head y xs)) (contains_dec xs x (λ z c. same z (contains_more y xs z c)))
+  where
+    neither : (y ≢ x) → ¬ (Contains xs x) → (y ≡ x) ⊎ Contains xs x → ⊥
+    neither k j (inl e) = k e
+    neither k j (inr c) = j c
+
+    go : Dec (y ≡ x) → Dec (Contains xs x) → Dec (Contains (y ∷ xs) x)
+    go (yes e) d = yes (subst (Contains (y ∷ xs)) e (contains_head y xs))
+    go (no k) (yes c) = yes (contains_more y xs x c)
+    go (no k) (no j) = no (λ c. neither k j (contains_cases y xs x c))
+
+-- the things of a list of which P holds, each once
+record Chosen {A : Type 0} (xs : List A) (P : A → Type 0) : Type 0 where
+  all : List A
+  once : NoRepeat all
+  sub : (x : A) → Contains all x → Contains xs x × P x
+  every : (x : A) → Contains xs x → P x → Contains all x
+
+chosen : {A : Type 0} (xs : List A) (P : A → Type 0) → ((x y : A) → Contains xs x → Contains xs y → Dec (x ≡ y)) → ((x : A) → Contains xs x → Dec (P x)) → Chosen xs P
+chosen [] P same dec = record { all = []; once = tt; sub = λ x c. absurd (contains_none x c); every = λ x c. absurd (contains_none x c) }
+chosen {A = A} (y ∷ xs) P same dec =
+    go (chosen xs P (λ x z c k. same x z (contains_more y xs x c) (contains_more y xs z k)) (λ x c. dec x (contains_more y xs x c))) (dec y (contains_head y xs))
+  where
+    skip : (h : Chosen xs P) → (P y → Contains h.all y) → Chosen (y ∷ xs) P
+    skip h there = record {
+      all = h.all;
+      once = h.once;
+      sub = λ x c. (contains_more y xs x (h.sub x c).0, (h.sub x c).1);
+      every = λ x c. which x (contains_cases y xs x c);
+    }
+      where
+        which : (x : A) → (y ≡ x) ⊎ Contains xs x → P x → Contains h.all x
+        which x (inl e) p = subst (Contains h.all) e (there (subst P (sym e) p))
+        which x (inr c) p = h.every x c p
+
+    take : (h : Chosen xs P) → P y → ¬ (Contains h.all y) → Chosen (y ∷ xs) P
+    take h p fresh = record {
+      all = y ∷ h.all;
+      once = (fresh, h.once);
+      sub = λ x c. back x (contains_cases y h.all x c);
+      every = λ x c. which x (contains_cases y xs x c);
+    }
+      where
+        back : (x : A) → (y ≡ x) ⊎ Contains h.all x → Contains (y ∷ xs) x × P x
+        back x (inl e) = (subst (Contains (y ∷ xs)) e (contains_head y xs), subst P e p)
+        back x (inr c) = (contains_more y xs x (h.sub x c).0, (h.sub x c).1)
+
+        which : (x : A) → (y ≡ x) ⊎ Contains xs x → P x → Contains (y ∷ h.all) x
+        which x (inl e) q = subst (Contains (y ∷ h.all)) e (contains_head y h.all)
+        which x (inr c) q = contains_more y h.all x (h.every x c q)
+
+    go : Chosen xs P → Dec (P y) → Chosen (y ∷ xs) P
+    go h (no k) = skip h (λ p. absurd (k p))
+    go h (yes p) = there (contains_dec h.all y (λ x c. same x y (contains_more y xs x (h.sub x c).0) (contains_head y xs)))
+      where
+        there : Dec (Contains h.all y) → Chosen (y ∷ xs) P
+        there (yes c) = skip h (λ q. c)
+        there (no k) = take h p k
+
+-- what can be decided of each thing of a list, and holds of no other, holds of some number of things
+pub number_decided : {A : Type 0} (xs : List A) (P : A → Type 0) → ((x y : A) → Contains xs x → Contains xs y → Dec (x ≡ y)) → ((x : A) → Contains xs x → Dec (P x)) → ((x : A) → P x → Contains xs x) → (n : ℕ) × IsNumberOf P n
+number_decided {A = A} xs P same dec among = (length h.all, record { all = h.all; once = h.once; these = λ x. ((λ c. (h.sub x c).1), λ p. h.every x (among x p) p); many = refl })
+  where
+    h : Chosen xs P
+    h = chosen xs P same dec

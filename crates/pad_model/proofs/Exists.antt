@@ -1,20 +1,22 @@
--- Under no clash of names there is a best path.
-use Rattle.std.proofs.Common.{◌≡◌, ◌≢◌, ℕ, zero, suc, ◌<◌, ◌≤◌, ◌⊎◌, inl, inr, List, [], ◌∷◌, length, Contains, refl, sym, ap, ◌∙◌, subst, arith}
+-- Under no clash of names there is a best path, and a best one through each path.
+use Rattle.std.proofs.Common.{◌≡◌, ◌≢◌, ℕ, zero, suc, ◌<◌, ◌≤◌, ◌⊎◌, inl, inr, List, [], ◌∷◌, ◌++◌, length, Contains, refl, sym, ap, ◌∙◌, subst, arith}
 use Rattle.std.proofs.lemmas.Bool.{cases_lt}
+use Rattle.std.proofs.lemmas.List.{append-nil}
 use Rattle.pad_text.specs.declared.name.Name.{Name}
 use Rattle.pad_text.specs.Name.{NameLess}
 use Rattle.pad_message.specs.declared.message.Message.{Message}
 use Rattle.pad_message.specs.Message.{name_of}
 use Rattle.pad_model.specs.declared.base.Base.{Base}
-use Rattle.pad_model.specs.Path.{last_name, IsSoundOn, IsLinkedPath, EachSound, IsPath, NamesDiffer}
+use Rattle.pad_model.specs.Path.{last_name, IsSoundOn, IsLinkedPath, IsLinked, EachSound, IsPath, NamesDiffer}
 use Rattle.pad_model.specs.Best.{IsBetter, IsBest}
+use Rattle.pad_model.specs.Choice.{RunsThrough, IsBestThrough}
 use Rattle.pad_model.specs.Laws.{OneBestExists}
 use Rattle.pad_list.proofs.CallerLemmas.{contains_head, contains_more, contains_cases, contains_none}
 use Rattle.pad_model.proofs.Chains.{linked_unique, linked_short}
 use Rattle.pad_model.proofs.Orders.{never_better_itself, better_than, better_asym}
 use Rattle.pad_model.proofs.Decide.{name_dec, less_dec, sound_dec}
 
-better_dec : (b : Base) (p q : List Message) → Dec (IsBetter b p q)
+pub better_dec : (b : Base) (p q : List Message) → Dec (IsBetter b p q)
 better_dec b p q = go (cases_lt (length q) (length p)) (cases_lt (length p) (length q)) (less_dec (last_name b p) (last_name b q))
   where
     shorter : length p < length q → ¬ (IsBetter b p q)
@@ -30,6 +32,9 @@ better_dec b p q = go (cases_lt (length q) (length p)) (cases_lt (length p) (len
     go (inr h) (inl s) d = no (shorter s)
     go (inr h) (inr s) (yes l) = yes (inr (omega (arith, h, s), l))
     go (inr h) (inr s) (no n) = no (not_less h n)
+
+rest_same : (m n : Message) (p q : List Message) → m ∷ p ≡ n ∷ q → p ≡ q
+rest_same m n p q e = cc
 
 abbrev Named : List Message → Name → Type 0
 Named R n = (y : Message) × Contains R y × (name_of y ≡ n)
@@ -91,71 +96,106 @@ module _ (b : Base) (R : List Message) (d : NamesDiffer R) where
       go (yes h) (no k) = no (λ e. k e.1)
       go (no h) e = no (λ e. h e.0)
 
-  -- a path ends in m
-  abbrev Ends : Message → Type 0
-  Ends m = (p : List Message) × IsPath b R (m ∷ p)
-
-  ends_dec : (m : Message) → Contains R m → Dec (Ends m)
-  ends_dec m c = go (linked_dec (suc (length R)) m c)
+  pub is_linked_dec : (m : Message) → Contains R m → Dec (IsLinked b R m)
+  is_linked_dec m c = go (linked_dec (suc (length R)) m c)
     where
-      unsound : (p : List Message) → IsLinkedPath b R (m ∷ p) → ¬ (EachSound b (m ∷ p)) → ¬ (Ends m)
-      unsound p h k (q, g) = k (subst (EachSound b) (linked_unique b R (m ∷ q) (m ∷ p) d g.0 h refl) g.1)
+      go : Dec (LinkedWithin (suc (length R)) m) → Dec (IsLinked b R m)
+      go (yes (p, h, l)) = yes (p, h)
+      go (no k) = no (λ e. k (e.0, e.1, omega (arith, linked_short b R (m ∷ e.0) d e.1)))
 
-      next : (p : List Message) → IsLinkedPath b R (m ∷ p) → Dec (EachSound b (m ∷ p)) → Dec (Ends m)
-      next p h (yes e) = yes (p, (h, e))
-      next p h (no k) = no (unsound p h k)
+  pub through_dec : (root p : List Message) → IsLinkedPath b R root → IsLinkedPath b R p → Dec (RunsThrough root p)
+  through_dec root [] hr hp = go (name_dec (last_name b []) (last_name b root))
+    where
+      not_empty : last_name b [] ≢ last_name b root → ¬ (RunsThrough root [])
+      not_empty k ([], e) = k (ap (last_name b) e)
+      not_empty k (m ∷ above, e) = let n : length {A = Message} [] ≡ length (m ∷ above ++ root) = ap length e in omega (arith, n)
 
-      go : Dec (LinkedWithin (suc (length R)) m) → Dec (Ends m)
-      go (yes (p, h, l)) = next p h (each_sound_dec (m ∷ p))
-      go (no k) = no (λ e. k (e.0, e.1.0, omega (arith, linked_short b R (m ∷ e.0) d e.1.0)))
+      go : Dec (last_name b [] ≡ last_name b root) → Dec (RunsThrough root [])
+      go (yes e) = yes ([], linked_unique b R [] root d hp hr e)
+      go (no k) = no (not_empty k)
+  through_dec root (m ∷ p) hr hp = go (name_dec (name_of m) (last_name b root)) (through_dec root p hr hp.1)
+    where
+      neither : name_of m ≢ last_name b root → ¬ (RunsThrough root p) → ¬ (RunsThrough root (m ∷ p))
+      neither k j ([], e) = k (ap (last_name b) e)
+      neither k j (n ∷ above, e) = j (above, rest_same m n p (above ++ root) e)
 
-  -- the best of the paths that end in one of these messages, and of the base alone
-  record BestOf (among : List Message) : Type 0 where
+      go : Dec (name_of m ≡ last_name b root) → Dec (RunsThrough root p) → Dec (RunsThrough root (m ∷ p))
+      go (yes e) r = yes ([], linked_unique b R (m ∷ p) root d hp hr e)
+      go (no k) (yes (above, e)) = yes (m ∷ above, ap (λ x. m ∷ x) e)
+      go (no k) (no j) = no (neither k j)
+
+  -- a path through the root ends in m
+  abbrev Ends : List Message → Message → Type 0
+  Ends root m = (p : List Message) × IsPath b R (m ∷ p) × RunsThrough root (m ∷ p)
+
+  ends_dec : (root : List Message) → IsLinkedPath b R root → (m : Message) → Contains R m → Dec (Ends root m)
+  ends_dec root hr m c = go (is_linked_dec m c)
+    where
+      same : (p q : List Message) → IsLinkedPath b R (m ∷ p) → IsLinkedPath b R (m ∷ q) → m ∷ q ≡ m ∷ p
+      same p q h g = linked_unique b R (m ∷ q) (m ∷ p) d g h refl
+
+      next : (p : List Message) → IsLinkedPath b R (m ∷ p) → Dec (EachSound b (m ∷ p)) → Dec (RunsThrough root (m ∷ p)) → Dec (Ends root m)
+      next p h (yes e) (yes t) = yes (p, (h, e), t)
+      next p h (no k) t = no (λ (q, g, t). k (subst (EachSound b) (same p q h g.0) g.1))
+      next p h e (no k) = no (λ (q, g, t). k (subst (RunsThrough root) (same p q h g.0) t))
+
+      go : Dec (IsLinked b R m) → Dec (Ends root m)
+      go (yes (p, h)) = next p h (each_sound_dec (m ∷ p)) (through_dec root (m ∷ p) hr h)
+      go (no k) = no (λ (q, g, t). k (q, g.0))
+
+  -- the best of the paths through the root that end in one of these messages, and of the root itself
+  record BestOf (root among : List Message) : Type 0 where
     best : List Message
     path : IsPath b R best
-    base_no_better : ¬ (IsBetter b [] best)
-    none_better : (m : Message) (q : List Message) → Contains among m → IsPath b R (m ∷ q) → ¬ (IsBetter b (m ∷ q) best)
+    through : RunsThrough root best
+    root_no_better : ¬ (IsBetter b root best)
+    none_better : (m : Message) (q : List Message) → Contains among m → IsPath b R (m ∷ q) → RunsThrough root (m ∷ q) → ¬ (IsBetter b (m ∷ q) best)
 
-  best_of : (X : List Message) → ((m : Message) → Contains X m → Contains R m) → BestOf X
-  best_of [] sub = record { best = []; path = (tt, tt); base_no_better = never_better_itself b []; none_better = λ m q c. absurd (contains_none m c) }
-  best_of (x ∷ X) sub = go (best_of X (λ m c. sub m (contains_more x X m c))) (ends_dec x (sub x (contains_head x X)))
+  best_of : (root X : List Message) → IsPath b R root → ((m : Message) → Contains X m → Contains R m) → BestOf root X
+  best_of root [] hr sub = record { best = root; path = hr; through = ([], refl); root_no_better = never_better_itself b root; none_better = λ m q c. absurd (contains_none m c) }
+  best_of root (x ∷ X) hr sub = go (best_of root X hr (λ m c. sub m (contains_more x X m c))) (ends_dec root hr.0 x (sub x (contains_head x X)))
     where
-      keep : (h : BestOf X) → ((q : List Message) → IsPath b R (x ∷ q) → ¬ (IsBetter b (x ∷ q) h.best)) → BestOf (x ∷ X)
-      keep h k = record { best = h.best; path = h.path; base_no_better = h.base_no_better; none_better = λ m q c. which m q (contains_cases x X m c) }
+      keep : (h : BestOf root X) → ((q : List Message) → IsPath b R (x ∷ q) → RunsThrough root (x ∷ q) → ¬ (IsBetter b (x ∷ q) h.best)) → BestOf root (x ∷ X)
+      keep h k = record { best = h.best; path = h.path; through = h.through; root_no_better = h.root_no_better; none_better = λ m q c. which m q (contains_cases x X m c) }
         where
-          which : (m : Message) (q : List Message) → (x ≡ m) ⊎ Contains X m → IsPath b R (m ∷ q) → ¬ (IsBetter b (m ∷ q) h.best)
-          which m q (inl e) = subst (λ w. IsPath b R (w ∷ q) → ¬ (IsBetter b (w ∷ q) h.best)) e (k q)
+          which : (m : Message) (q : List Message) → (x ≡ m) ⊎ Contains X m → IsPath b R (m ∷ q) → RunsThrough root (m ∷ q) → ¬ (IsBetter b (m ∷ q) h.best)
+          which m q (inl e) = subst (λ w. IsPath b R (w ∷ q) → RunsThrough root (w ∷ q) → ¬ (IsBetter b (w ∷ q) h.best)) e (k q)
           which m q (inr c) = h.none_better m q c
 
-      take : (h : BestOf X) (p : List Message) → IsPath b R (x ∷ p) → IsBetter b (x ∷ p) h.best → BestOf (x ∷ X)
-      take h p path better = record {
+      take : (h : BestOf root X) (p : List Message) → IsPath b R (x ∷ p) → RunsThrough root (x ∷ p) → IsBetter b (x ∷ p) h.best → BestOf root (x ∷ X)
+      take h p path through better = record {
         best = x ∷ p;
         path = path;
-        base_no_better = λ bad. h.base_no_better (better_than b [] h.best (x ∷ p) bad (better_asym b (x ∷ p) h.best better));
+        through = through;
+        root_no_better = λ bad. h.root_no_better (better_than b root h.best (x ∷ p) bad (better_asym b (x ∷ p) h.best better));
         none_better = λ m q c. which m q (contains_cases x X m c);
       }
         where
-          which : (m : Message) (q : List Message) → (x ≡ m) ⊎ Contains X m → IsPath b R (m ∷ q) → ¬ (IsBetter b (m ∷ q) (x ∷ p))
-          which m q (inl e) other bad = never_better_itself b (x ∷ p) (subst (λ w. IsBetter b w (x ∷ p)) (linked_unique b R (m ∷ q) (x ∷ p) d other.0 path.0 (ap name_of (sym e))) bad)
-          which m q (inr c) other bad = h.none_better m q c other (better_than b (m ∷ q) h.best (x ∷ p) bad (better_asym b (x ∷ p) h.best better))
+          which : (m : Message) (q : List Message) → (x ≡ m) ⊎ Contains X m → IsPath b R (m ∷ q) → RunsThrough root (m ∷ q) → ¬ (IsBetter b (m ∷ q) (x ∷ p))
+          which m q (inl e) other t bad = never_better_itself b (x ∷ p) (subst (λ w. IsBetter b w (x ∷ p)) (linked_unique b R (m ∷ q) (x ∷ p) d other.0 path.0 (ap name_of (sym e))) bad)
+          which m q (inr c) other t bad = h.none_better m q c other t (better_than b (m ∷ q) h.best (x ∷ p) bad (better_asym b (x ∷ p) h.best better))
 
-      choose : (h : BestOf X) (p : List Message) → IsPath b R (x ∷ p) → Dec (IsBetter b (x ∷ p) h.best) → BestOf (x ∷ X)
-      choose h p path (yes better) = take h p path better
-      choose h p path (no k) = keep h (λ q other bad. k (subst (λ w. IsBetter b w h.best) (linked_unique b R (x ∷ q) (x ∷ p) d other.0 path.0 refl) bad))
+      choose : (h : BestOf root X) (p : List Message) → IsPath b R (x ∷ p) → RunsThrough root (x ∷ p) → Dec (IsBetter b (x ∷ p) h.best) → BestOf root (x ∷ X)
+      choose h p path t (yes better) = take h p path t better
+      choose h p path t (no k) = keep h (λ q other u bad. k (subst (λ w. IsBetter b w h.best) (linked_unique b R (x ∷ q) (x ∷ p) d other.0 path.0 refl) bad))
 
-      go : BestOf X → Dec (Ends x) → BestOf (x ∷ X)
-      go h (no k) = keep h (λ q path bad. k (q, path))
-      go h (yes (p, path)) = choose h p path (better_dec b (x ∷ p) h.best)
+      go : BestOf root X → Dec (Ends root x) → BestOf root (x ∷ X)
+      go h (no k) = keep h (λ q path t bad. k (q, path, t))
+      go h (yes (p, path, t)) = choose h p path t (better_dec b (x ∷ p) h.best)
 
-  some_best : (best : List Message) × IsBest b R best
-  some_best = (h.best, record { path = h.path; none_better = none })
+  pub best_through : (root : List Message) → IsPath b R root → (best : List Message) × IsBestThrough b R root best
+  best_through root hr = (h.best, record { path = h.path; through = h.through; none_better = none })
     where
-      h : BestOf R
-      h = best_of R (λ m c. c)
+      h : BestOf root R
+      h = best_of root R hr (λ m c. c)
 
-      none : (q : List Message) → IsPath b R q → ¬ (IsBetter b q h.best)
-      none [] path = h.base_no_better
-      none (m ∷ q) path = h.none_better m q path.0.0.member path
+      none : (q : List Message) → IsPath b R q → RunsThrough root q → ¬ (IsBetter b q h.best)
+      none [] path ([], e) = subst (λ r. ¬ (IsBetter b r h.best)) (sym e) h.root_no_better
+      none [] path (m ∷ above, e) = let n : length {A = Message} [] ≡ length (m ∷ above ++ root) = ap length e in absurd (omega (arith, n))
+      none (m ∷ q) path t = h.none_better m q path.0.0.member path t
 
 pub some_is_best : OneBestExists
-some_is_best b R d = some_best b R d
+some_is_best b R d = go (best_through b R d [] (tt, tt))
+  where
+    go : (best : List Message) × IsBestThrough b R [] best → (best : List Message) × IsBest b R best
+    go (best, h) = (best, record { path = h.path; none_better = λ q path. h.none_better q path (q, sym (append-nil q)) })

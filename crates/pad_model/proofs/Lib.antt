@@ -3,6 +3,7 @@ mod Orders
 mod OneBest
 mod Decide
 mod Exists
+mod Existence
 mod Chosen
 mod Roots
 mod OneChoice

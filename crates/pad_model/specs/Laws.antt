@@ -78,6 +78,10 @@ abbrev pub AtMostOneChoice : Type 0
 AtMostOneChoice =
     (base : Base) (received : List Message) (choice other : Choice) → NamesDiffer received → IsChoice base received choice → IsChoice base received other → choice ≡ other
 
+-- under no clash of names there is a choice
+abbrev pub OneChoiceExists : Type 0
+OneChoiceExists = (base : Base) (received : List Message) → NamesDiffer received → (choice : Choice) × IsChoice base received choice
+
 -- at most as many messages overtook as were received
 abbrev pub FewOvertake : Type 0
 FewOvertake = (base : Base) (received : List Message) (choice : Choice) → IsChoice base received choice → choice.overtaken ≤ length received
@@ -89,7 +93,8 @@ RepeatChangesNoChoice =
 
 -- ---- what a chain has to try as a message comes
 
--- What was the best through the root, or a path as good, is the best again if no path with the new message on it is better.
+-- Let a path be the best through the root. As a message comes, a path through the root that it does not better is the best
+-- through the root again, if no path with the new message on it is better.
 abbrev pub OnlyNewPaths : Type 0
 OnlyNewPaths =
     (base : Base) (received root path other : List Message) (message : Message) → IsBestThrough base received root path → IsPath base (message ∷ received) other → RunsThrough root other → ¬ (IsBetter base path other)
@@ -133,6 +138,10 @@ AdoptionChangesNothing =
 abbrev pub AtMostOneReport : Type 0
 AtMostOneReport =
     (base : Base) (received : List Message) (unreadable : ℕ) (bytes other : List ℕ) → NamesDiffer received → IsReport base received unreadable bytes → IsReport base received unreadable other → bytes ≡ other
+
+-- under no clash of names there is a report
+abbrev pub OneReportExists : Type 0
+OneReportExists = (base : Base) (received : List Message) (unreadable : ℕ) → NamesDiffer received → (bytes : List ℕ) × IsReport base received unreadable bytes
 
 -- under no clash of names a message received again changes nothing of a report
 abbrev pub RepeatChangesNoReport : Type 0

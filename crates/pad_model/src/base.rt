@@ -9,7 +9,8 @@ pub struct Base {
     pub name: Name,
     /// The text that the first message of a chain meets.
     pub text: Text,
-    /// After how many messages the first checkpoint of a chain may come, from 10 to 1,000.
+    /// After how many messages the first checkpoint of a chain may come. It is from 10 to 1,000 in a base that `first` or a
+    /// message that was read gives; the type holds any number.
     pub interval: u16,
 }
 

@@ -1,6 +1,6 @@
 //! Laws over the definitions alone. Each function does nothing: its contract is the law.
 
-ghost use Rattle.pad_model.specs.Laws.{AtMostOneBest, OneBestExists, OrderIsNoPart, OneLinkedHeight, RootOnChosen, BestThroughItsRoot, BestAtBase, RootRises, NeverWorse, StaysBest, NothingOvertook, AtMostOneChoice, FewOvertake, RepeatChangesNoChoice, OnlyNewPaths, StaysChosen, NothingLinks, CheckpointsCanBeAdopted, AdoptionChangesNothing, AtMostOneReport, RepeatChangesNoReport, OrderChangesNoBest};
+ghost use Rattle.pad_model.specs.Laws.{AtMostOneBest, OneBestExists, OrderIsNoPart, OneLinkedHeight, RootOnChosen, BestThroughItsRoot, BestAtBase, RootRises, NeverWorse, StaysBest, NothingOvertook, AtMostOneChoice, OneChoiceExists, FewOvertake, RepeatChangesNoChoice, OnlyNewPaths, StaysChosen, NothingLinks, CheckpointsCanBeAdopted, AdoptionChangesNothing, AtMostOneReport, OneReportExists, RepeatChangesNoReport, OrderChangesNoBest};
 
 /// Under no clash of names at most one path is the best.
 pub fn at_most_one_best()
@@ -62,6 +62,11 @@ pub fn at_most_one_choice()
     ensures { AtMostOneChoice }
 {}
 
+/// Under no clash of names there is a choice.
+pub fn one_choice_exists()
+    ensures { OneChoiceExists }
+{}
+
 /// At most as many messages overtook as were received.
 pub fn few_overtake()
     ensures { FewOvertake }
@@ -100,6 +105,11 @@ pub fn adoption_changes_nothing()
 /// Under no clash of names there is at most one report.
 pub fn at_most_one_report()
     ensures { AtMostOneReport }
+{}
+
+/// Under no clash of names there is a report.
+pub fn one_report_exists()
+    ensures { OneReportExists }
 {}
 
 /// Under no clash of names a message received again changes nothing of a report.

@@ -31,11 +31,11 @@ pub record IsReceived (lines : List (List ℕ)) (messages : List Message) (unrea
   pub read : messages ≡ filter_map (λ outcome. outcome) outcomes
   pub others : unreadable ≡ count_by is_none outcomes
 
--- no more names are known, the base's excepted, than a replay receives: different ones are at most so many
+-- at most `most_names` different names are known, the base's not counted
 abbrev pub HasFewNames : List Message → Type 0
 HasFewNames messages = (names : List Name) → NoRepeat names → ((name : Name) → Contains names name → IsKnown first_base messages name) → length names ≤ most_names
 
--- a replay receives the lines to their end
+-- the lines read as these messages and this many others, and their names are no more than a replay takes
 pub record IsTaken (lines : List (List ℕ)) (messages : List Message) (unreadable : ℕ) : Type 0 where
   pub received : IsReceived lines messages unreadable
   pub names : HasFewNames messages

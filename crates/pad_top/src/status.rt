@@ -12,7 +12,7 @@ pub enum Status {
     ReadFault,
     /// A write of the output failed.
     WriteFault,
-    /// The input has more bytes, or more different messages, than a run takes.
+    /// The input has more bytes, or more different names of messages, than a run takes.
     Limit,
     /// There was not enough memory.
     NoMemory,
