@@ -15,7 +15,7 @@ use Rattle.pad_graph.specs.declared.standing.Standing.TheVariants.{Waiting}
 use Rattle.pad_graph.specs.Inside.Tables.{names_in, marked, is_among, IsPut, IsSame, HasChild, HasSameNames}
 use Rattle.pad_graph.specs.Chain.{Link, IsAddedName}
 use Rattle.pad_graph.specs.Inside.Hanging.{IsForest, AreHanging}
-use Rattle.pad_graph.specs.State.{State, state_of, standing_of, names_at, last_name, name_cmp}
+use Rattle.pad_graph.specs.State.{State, state_of, standing_of, names_at, last_added, name_cmp}
 use Rattle.pad_graph.specs.Graph.{IsNewName, IsStanding, Stands}
 use Rattle.pad_graph.specs.Inside.Growth.{with_link, Enters}
 use Rattle.pad_graph.specs.Inside.Steps.{Undoes, Drops}
@@ -130,7 +130,7 @@ module _ {A : Type 0} (m : BTreeMap Name (Vec Name A)) where
 
 -- ---- what is taken back
 
-pub same_last : (state : State) (last : Last) (name : Name) → state.last ≡ Some last → last_name state ≡ Some name → last.name ≡ name
+pub same_last : (state : State) (last : Last) (name : Name) → state.last ≡ Some last → last_added state ≡ Some name → last.name ≡ name
 same_last state last name is e = some_same last.name name (ap (option_map (λ (l : Last). l.name)) (sym is) ∙ e)
   where
     some_same : (a b : Name) → Some a ≡ Some b → a ≡ b

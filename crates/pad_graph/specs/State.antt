@@ -79,8 +79,8 @@ abbrev pub standing : State → Name → Standing
 standing state name = standing_of (state.node name)
 
 -- the name of the message that was added last, if nothing has changed since
-abbrev pub last_name : State → Option Name
-last_name state = option_map (λ last. last.name) state.last
+abbrev pub last_added : State → Option Name
+last_added state = option_map (λ last. last.name) state.last
 
 -- it is linked through the root
 abbrev pub IsHeld : Standing → Type 0

@@ -11,7 +11,7 @@ ghost use Rattle.pad_graph.specs.declared.standing.Standing.TheVariants.{Unknown
 ghost use Rattle.pad_graph.specs.Added.{IsAdded, HasName, links_after, linking_cmp};
 ghost use Rattle.pad_graph.specs.Chain.{Link, top, IsChain};
 ghost use Rattle.pad_list.specs.Number.{IsNumberOf};
-ghost use Rattle.pad_graph.specs.State.{state_of, standing, last_name, IsHeld};
+ghost use Rattle.pad_graph.specs.State.{state_of, standing, last_added, IsHeld};
 ghost use Rattle.pad_graph.specs.Graph.{IsStanding, IsParentOf, AreFound, Stands, AreDropped, IsDropped};
 ghost use Rattle.pad_graph.specs.Inside.Marks.{IsUnder, IsApart, kept_by};
 
@@ -148,7 +148,7 @@ impl Graph {
     pub fn add(&mut self, alloc: Global, name: Name, parent: Name) -> Result<Added, AddRefused>
         ensures known { IfOk result (λ added. added ≡ Known → state_of self.new ≡ state_of self.old) }
         ensures stands { IfOk result (λ added. (base : Name) (links : List Link) (root : List Name) → Stands (state_of self.old) base links root → IsAdded base links root (record { name = name; parent = parent }) added × Stands (state_of self.new) base (links_after (record { name = name; parent = parent }) links added) root) }
-        ensures last { IfOk result (λ added. (added ≡ Known) ⊎ (last_name (state_of self.new) ≡ Some name)) }
+        ensures last { IfOk result (λ added. (added ≡ Known) ⊎ (last_added (state_of self.new) ≡ Some name)) }
         ensures full { IfErr result (λ refused. refused ≡ Full → (standing (state_of self.old) name ≡ Unknown) × ((state_of self.old).known ≡ MOST_NAMES)) }
         ensures room { standing (state_of self.old) name ≡ Unknown → (state_of self.old).known ≡ MOST_NAMES → result ≡ Err Full }
         ensures err { OnErr result (state_of self.new ≡ state_of self.old) }
@@ -177,7 +177,7 @@ impl Graph {
 
     /// Takes back the message that was added last. It takes no memory.
     pub fn undo_add(&mut self, name: &Name)
-        requires { last_name (state_of self.old) ≡ Some name.now }
+        requires { last_added (state_of self.old) ≡ Some name.now }
         ensures { (base : Name) (link : Link) (links : List Link) (root : List Name) → Stands (state_of self.old) base (link ∷ links) root → Stands (state_of self.new) base links root }
     {
         let Some(last) = self.last else {
@@ -248,7 +248,7 @@ impl Graph {
         requires new { (state_of self.old).node name ≡ None }
         requires found { (base : Name) (links : List Link) (root : List Name) → Stands (state_of self.old) base links root → AreFound base links root (record { name = name; parent = parent }) mark found.now }
         ensures ok { OnOk result ((base : Name) (links : List Link) (root : List Name) → Stands (state_of self.old) base links root → Stands (state_of self.new) base (record { name = name; parent = parent } ∷ links) root) }
-        ensures last { OnOk result (last_name (state_of self.new) ≡ Some name) }
+        ensures last { OnOk result (last_added (state_of self.new) ≡ Some name) }
         ensures err { OnErr result (state_of self.new ≡ state_of self.old) }
     {
         let mut linked = Vec::new(alloc);
@@ -282,7 +282,7 @@ impl Graph {
         requires new { (state_of self.old).node name ≡ None }
         requires apart { IsApart (standing (state_of self.old) parent) }
         ensures ok { OnOk result ((base : Name) (links : List Link) (root : List Name) → Stands (state_of self.old) base links root → AreFound base links root (record { name = name; parent = parent }) Waits [] × Stands (state_of self.new) base (record { name = name; parent = parent } ∷ links) root) }
-        ensures last { OnOk result (last_name (state_of self.new) ≡ Some name) }
+        ensures last { OnOk result (last_added (state_of self.new) ≡ Some name) }
         ensures err { OnErr result (state_of self.new ≡ state_of self.old) }
     {
         self.enter(alloc, name, parent, &[], Mark::Waiting)?;
@@ -304,7 +304,7 @@ impl Graph {
         ensures ok { IfOk result (λ found. (base : Name) (links : List Link) (root : List Name) → Stands (state_of self.old) base links root → AreFound base links root (record { name = name; parent = parent }) mark found × Stands (state_of self.new) base (record { name = name; parent = parent } ∷ links) root) }
         ensures sorted { IfOk result (IsSorted linking_cmp) }
         ensures itself { IfOk result (λ found. HasName found name) }
-        ensures last { OnOk result (last_name (state_of self.new) ≡ Some name) }
+        ensures last { OnOk result (last_added (state_of self.new) ≡ Some name) }
         ensures err { OnErr result (state_of self.new ≡ state_of self.old) }
     {
         let limit = self.known + 1;

@@ -3,5 +3,5 @@ use Rattle.std.specs.Prelude.{ℕ, List}
 use Rattle.pad_rope.specs.declared.rope.Rope.{Rope}
 
 -- the units of its text
-abbrev pub units_of : Rope → List ℕ
-units_of rope = rope.kept.units
+abbrev pub rope_units : Rope → List ℕ
+rope_units rope = rope.kept.units

@@ -130,23 +130,23 @@ pub struct Rope {
 }
 
 impl Rope {
-    ghost use Rattle.pad_rope.specs.Rope.{units_of};
+    ghost use Rattle.pad_rope.specs.Rope.{rope_units};
 
     /// The height of the tree that holds the text: 0 if it is one leaf of at most `LEAF_SIZE` units, and one more than that of
     /// the higher of its two sides otherwise.
     pub fn height(&self) -> u32
-        ensures low { 1 ≤ length (units_of self.now) → 2 ^ result ≤ length (units_of self.now) * length (units_of self.now) }
-        ensures wide { length (units_of self.now) ≤ LEAF_SIZE * 2 ^ result }
-        ensures empty { length (units_of self.now) ≡ 0 → result ≡ 0 }
+        ensures low { 1 ≤ length (rope_units self.now) → 2 ^ result ≤ length (rope_units self.now) * length (rope_units self.now) }
+        ensures wide { length (rope_units self.now) ≤ LEAF_SIZE * 2 ^ result }
+        ensures empty { length (rope_units self.now) ≡ 0 → result ≡ 0 }
     {
         self.kept.height()
     }
 }
 
 impl UnitStore for Rope {
-    ghost use Rattle.pad_rope.specs.Rope.{units_of};
+    ghost use Rattle.pad_rope.specs.Rope.{rope_units};
 
-    ghost units = { units_of };
+    ghost units = { rope_units };
 
     fn from_text(alloc: Global, text: &Text) -> Result<Rope, AllocError> {
         let kept = Kept::new(alloc, text.as_units())?;
