@@ -1,6 +1,11 @@
 pub mod Calls
 pub mod Clock
 pub mod Count
+pub mod Link
+pub mod MemLink
+pub mod MemPort
 pub mod MemSink
 pub mod MemSource
+pub mod Port
 pub mod SureSource
+pub mod Wire

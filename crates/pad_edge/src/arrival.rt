@@ -1,0 +1,10 @@
+use crate::wire::Wire;
+
+/// What comes over a link.
+#[derive(Debug, Drop)]
+pub enum Arrival {
+    /// A text.
+    Text(Wire),
+    /// The link ended: nothing more comes.
+    Ended,
+}
