@@ -105,7 +105,7 @@ letters_whole size place cut =
     cc
 
 -- the sources after the first patch, read as new units and letters, are a text
-first_text : (patch : Patch) (size : ℕ) → All (λ (operation : Operation). IsText operation.insert) patch.ops → IsText (map new_or_letter (sources_of patch size))
+pub first_text : (patch : Patch) (size : ℕ) → All (λ (operation : Operation). IsText operation.insert) patch.ops → IsText (map new_or_letter (sources_of patch size))
 first_text patch size inserts =
     subst IsText (sym (read_first patch size))
     (IsText-text_after patch (map new_or_letter (kept_from 0 size)) (letters_text 0 size) inserts

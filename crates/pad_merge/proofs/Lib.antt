@@ -13,4 +13,5 @@ pub mod Fixed
 pub mod Labels
 pub mod Removals
 pub mod Whole
+pub mod Standing
 pub mod CallerLemmas

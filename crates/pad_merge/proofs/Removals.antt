@@ -1,5 +1,5 @@
 -- What a merge removes and leaves out.
-use Rattle.std.proofs.Common.{◌≡◌, ℕ, ◌+◌, ◌<◌, ◌≤◌, ◌⊎◌, inl, inr, None, Some, List, [], ◌∷◌, length, map, replicate, refl, sym, ◌∙◌, ap, subst, arith}
+use Rattle.std.proofs.Common.{◌≡◌, ℕ, zero, suc, ◌+◌, ◌<◌, ◌≤◌, ◌⊎◌, inl, inr, None, Some, List, [], ◌∷◌, length, map, replicate, refl, sym, ◌∙◌, ap, subst, arith}
 use Rattle.std.specs.Prelude.{Option, slice_get}
 use Rattle.std.specs.List.{filter_map, range_with_len}
 use Rattle.std.specs.Option.{option_map}
@@ -11,11 +11,12 @@ use Rattle.pad_patch.specs.declared.patch.Patch.{Patch}
 use Rattle.pad_patch.specs.Piece.{end_of, patched, inserted, length_after}
 use Rattle.pad_patch.specs.Misfit.{EndsAfter}
 use Rattle.pad_patch.specs.Removed.{Removes, IsKeptFrom, old_places}
-use Rattle.pad_patch.proofs.CallerLemmas.{somes_of, get-map, at_has, has_at, has_somes, removed_or_kept, kept_not_removed, kept_element, length-patched, IsLaid, laid, inside_of, inside_laid, get-range, below_get, get_below, new_drawn, patched-drawn, read_drawn, drawn}
+use Rattle.pad_patch.proofs.CallerLemmas.{somes_of, get-map, at_has, has_at, has_somes, removed_or_kept, kept_not_removed, kept_element, element_kept, kept_or_new, kept_once, length-patched, IsLaid, laid, inside_of, inside_laid, get-range, below_get, get_below, new_drawn, patched-drawn, read_drawn, drawn}
 use Rattle.pad_merge.specs.declared.origin.Origin.{Origin}
 use Rattle.pad_merge.specs.declared.origin.Origin.TheVariants.{First, Second}
 use Rattle.pad_merge.specs.Origin.{numbered, origins_after, origins}
 use Rattle.pad_merge.specs.Merge.{merged, CanMerge}
+use Rattle.pad_merge.specs.Laws.{MergedRemoves}
 use Rattle.pad_merge.proofs.Both.{laid-merged}
 use Rattle.pad_merge.proofs.Labels.{old_places-merged}
 
@@ -51,6 +52,57 @@ removes_merged first second size place can (index, operation, is, from, below) =
                 absurd (kept_not_removed both size place after.0 laid_both (ap (λ xs. slice_get xs after.0) (old_places-merged first second size can) ∙ stands) (index, operation, is, from, below))
           ]
     ]
+
+-- a kept unit is one of the text
+kept_within : (patch : Patch) (size place at : ℕ) → IsKeptFrom patch size place at → place < size
+kept_within patch size place at kept =
+    let old : List (Option ℕ) = map Some (range_with_len 0 size) in
+    let long : length old ≡ size = length-map-range_with_len {X = Option ℕ} Some 0 size in
+    let there = element_kept patch (replicate (length (inserted patch)) None) old place at (Some place) (length-replicate (length (inserted patch)) None) (subst (λ n. IsKeptFrom patch n place at) (sym long) kept) kept in
+    omega (arith, below_get (Some place) old place there, long)
+
+no_place : (count index place : ℕ) → slice_get (replicate {A = Option ℕ} count None) index ≡ Some (Some place) → ⊥
+no_place zero index place is = cc
+no_place (suc count) zero place is = let never : None ≡ Some place = cc in cc
+no_place (suc count) (suc index) place is = no_place count index place is
+
+-- a unit that the merge keeps both patches keep
+kept_by_both : (first second : Patch) (size place after : ℕ) → CanMerge first second size → IsKeptFrom (merged first second size) size place after
+    → (at : ℕ) × IsKeptFrom first size place at × IsKeptFrom second (length_after first size) at after
+kept_by_both first second size place after can kept =
+    let middle = old_places first size in
+    let nones : List (Option ℕ) = replicate (length (inserted second)) None in
+    let long = length-old_places first size can.first_inside in
+    elim (kept_or_new second nones middle after (Some place) (length-replicate (length (inserted second)) None) (sym (ap (λ xs. slice_get xs after) (old_places-merged first second size can)) ∙ kept)) [
+      | inl found ↦ (found.0, found.2, subst (λ n. IsKeptFrom second n found.0 after) long found.1)
+      | inr none ↦ absurd (no_place (length (inserted second)) none.0 place none.1)
+    ]
+
+removed_by_merge : (first second : Patch) (size place : ℕ) → CanMerge first second size → place < size
+    → ((after : ℕ) → IsKeptFrom (merged first second size) size place after → ⊥) → Removes (merged first second size) place
+removed_by_merge first second size place can below never = elim (removed_or_kept (merged first second size) size place (laid-merged first second size can) below) [
+  | inl removed ↦ removed
+  | inr kept ↦ absurd (never kept.0 kept.1)
+]
+
+-- and it removes all that one of them removes
+pub merged_removes : MergedRemoves
+merged_removes first second size place can = (
+  removes_merged first second size place can,
+  λ removed. elim removed [
+    | inl (index, operation, is, from, below) ↦
+        let laid_first = laid first size can.first_ordered can.first_inside in
+        removed_by_merge first second size place can (omega (arith, below, ends_within first size index operation laid_first is))
+        (λ after kept. kept_not_removed first size place (kept_by_both first second size place after can kept).0 laid_first (kept_by_both first second size place after can kept).1 (index, operation, is, from, below))
+    | inr (at, kept, removed_later) ↦
+        removed_by_merge first second size place can (kept_within first size place at kept)
+        (λ after kept_after.
+        let found = kept_by_both first second size place after can kept_after in
+        let same = kept_once first size place found.0 at can.first_ordered can.first_inside found.1 kept in
+        kept_not_removed second (length_after first size) at after (laid second (length_after first size) can.second_ordered can.second_inside)
+        (subst (λ n. IsKeptFrom second (length_after first size) n after) same found.2) removed_later)
+  ],
+)
 
 -- the units that the first patch inserts, as they stand after it
 first_place : (first : Patch) (size place : ℕ) → place < length (inserted first) → ((index : ℕ) → ¬ (EndsAfter first size index))

@@ -1,5 +1,5 @@
 -- What holds of the merge of any two patches.
-use Rattle.std.specs.Prelude.{◌≡◌, ℕ, ◌<◌, ◌⊎◌, Some, List, [], All, length, map, slice_get}
+use Rattle.std.specs.Prelude.{◌≡◌, ℕ, ◌<◌, ◌⊎◌, ◌↔◌, Some, List, [], All, length, map, slice_get}
 use Rattle.std.specs.List.{filter_map, range_with_len}
 use Rattle.std.specs.List.Sorted.{IsStrictlyIncreasing}
 use Rattle.pad_text.specs.Text.{IsText}
@@ -104,7 +104,7 @@ MergedCopies A =
 abbrev pub MergedRemoves : Type 0
 MergedRemoves =
     (first second : Patch) (size place : ℕ) → CanMerge first second size
-    → Removes (merged first second size) place → Removes first place ⊎ ((at : ℕ) × IsKeptFrom first size place at × Removes second at)
+    → Removes (merged first second size) place ↔ (Removes first place ⊎ ((at : ℕ) × IsKeptFrom first size place at × Removes second at))
 
 -- a unit that the first patch inserts is inserted by the merge, or the second one removes it
 abbrev pub FirstStandsUnlessRemoved : Type 0 → Type 0

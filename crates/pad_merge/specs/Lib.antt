@@ -2,4 +2,5 @@ pub mod Source
 pub mod Origin
 pub mod CopiedUnit
 pub mod Merge
+pub mod Inside
 pub mod Laws

@@ -51,3 +51,23 @@ pub record CanMerge (first second : Patch) (size : ℕ) : Type 0 where
   pub second_inside : (index : ℕ) → ¬ (EndsAfter second (length_after first size) index)
   pub starts_whole : (index : ℕ) (operation : Operation) → IsOperation second index operation → ¬ (CutsInserted first size operation.offset)
   pub ends_whole : (index : ℕ) (operation : Operation) → IsOperation second index operation → ¬ (CutsInserted first size (end_of operation))
+
+-- an operation has the range of the one that takes another back, where those before it have inserted and removed so many
+-- units: it stands there, removes as many units as the other inserts, and inserts as many as it removes
+pub record IsTurned (inserted removed : ℕ) (operation back : Operation) : Type 0 where
+  pub starts : back.offset ≡ operation.offset + inserted - removed
+  pub removes : back.remove ≡ length operation.insert
+  pub inserts : length back.insert ≡ operation.remove
+
+-- the operations have the ranges of those that take others back
+abbrev pub AreTurned : ℕ → ℕ → List Operation → List Operation → Type 0
+AreTurned inserted removed [] [] = Unit {0}
+AreTurned inserted removed [] (back ∷ backs) = ⊥
+AreTurned inserted removed (operation ∷ operations) [] = ⊥
+AreTurned inserted removed (operation ∷ operations) (back ∷ backs) =
+    IsTurned inserted removed operation back × AreTurned (inserted + length operation.insert) (removed + operation.remove) operations backs
+
+-- two patches can be merged where `back` has just taken the first one back: it has the ranges of the first one's inverse
+pub record CanMergeBack (first back second : Patch) (size : ℕ) : Type 0 where
+  pub merges : CanMerge first second size
+  pub turned : AreTurned 0 0 first.ops back.ops

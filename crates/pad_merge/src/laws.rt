@@ -82,7 +82,7 @@ pub fn merged_copies<A>()
     ensures { MergedCopies A }
 {}
 
-/// A merge removes what the first patch removes, and what the second one removes of the rest.
+/// A merge removes just what the first patch removes, and what the second one removes of the rest.
 pub fn merged_removes()
     ensures { MergedRemoves }
 {}

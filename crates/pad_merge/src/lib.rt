@@ -10,6 +10,7 @@
 //! ```
 #![tactic(auto)]
 
+mod checking;
 mod copied_unit;
 mod gaps;
 pub mod laws;
@@ -19,6 +20,7 @@ mod origins;
 mod sourced;
 mod turn;
 
+pub use checking::{can_merge, can_merge_back};
 pub use merging::{merge, merge_from};
 pub use origin::Origin;
 pub use origins::Origins;

@@ -27,11 +27,11 @@ pub record IsCut (text copy front : List ℕ) (inserted removed place : ℕ) (op
 abbrev pub front_of : List ℕ → List ℕ → ℕ → Operation → List ℕ
 front_of text front place operation = (front ++ between place operation.offset text) ++ operation.insert
 
-kept_size : (text : List ℕ) (place : ℕ) (operation : Operation) → end_of operation ≤ length text → length (between place operation.offset text) ≡ operation.offset - place
+pub kept_size : (text : List ℕ) (place : ℕ) (operation : Operation) → end_of operation ≤ length text → length (between place operation.offset text) ≡ operation.offset - place
 kept_size text place operation inside =
     length-take-le (operation.offset - place) (drop place text) (omega (arith, inside, length-drop place text))
 
-next : (text copy front : List ℕ) (inserted removed place : ℕ) (operation : Operation) (operations : List Operation)
+pub next : (text copy front : List ℕ) (inserted removed place : ℕ) (operation : Operation) (operations : List Operation)
     → place ≤ operation.offset → end_of operation ≤ length text → IsCut text copy front inserted removed place (operation ∷ operations)
     → IsCut text copy (front_of text front place operation) (inserted + length operation.insert) (removed + operation.remove) (end_of operation) operations
 next text copy front inserted removed place operation operations starts inside cut =
@@ -50,7 +50,7 @@ sizes text copy front inserted removed place operations cut =
     ap length cut.whole ∙ length-append front (copy_from text place operations) ∙ ap (λ n. n + length (copy_from text place operations)) cut.at
 
 -- the inverse stands in order in the copy
-laid_inverse : (text copy front : List ℕ) (inserted removed place : ℕ) (operations : List Operation)
+pub laid_inverse : (text copy front : List ℕ) (inserted removed place : ℕ) (operations : List Operation)
     → IsLaid place (length text) operations → IsCut text copy front inserted removed place operations
     → IsLaid (moved inserted removed place) (length copy) (inverse_operations inserted removed text operations)
 laid_inverse text copy front inserted removed place [] laid_out cut = omega (arith, sizes text copy front inserted removed place [] cut)
@@ -99,7 +99,7 @@ whole_inverse text copy front inserted removed place (operation ∷ operations) 
     (next text copy front inserted removed place operation operations starts inside cut) index inverted is
 
 -- the whole copy
-first : (patch : Patch) (text : List ℕ) → IsCut text (text_after patch text) [] 0 0 0 patch.ops
+pub first : (patch : Patch) (text : List ℕ) → IsCut text (text_after patch text) [] 0 0 0 patch.ops
 first patch text = record { whole = text_after-copy patch text; at = refl; below = omega arith }
 
 -- the inverse gives the text back

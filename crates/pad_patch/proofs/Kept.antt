@@ -202,6 +202,20 @@ element_kept patch new old place at e counted kept is =
     (sym (ap (option_map (read_drawn new old)) from) ∙ sym (get-map (read_drawn new old) (drawn patch size) at) ∙ sym (ap (λ xs. slice_get xs at) (patched-drawn patch new old counted))
     ∙ get-map Some (patched patch new old) at ∙ ap (option_map Some) is)
 
+-- each element of the copy is a new one or that of a kept unit
+pub kept_or_new : {A : Type 0} (patch : Patch) (new old : List A) (at : ℕ) (e : A) → length new ≡ length (inserted patch) → slice_get (patched patch new old) at ≡ Some e
+    → ((place : ℕ) × IsKeptFrom patch (length old) place at × (slice_get old place ≡ Some e)) ⊎ ((index : ℕ) × (slice_get new index ≡ Some e))
+kept_or_new patch new old at e counted is =
+    by_source (slice_get (drawn patch (length old)) at) refl
+    (sym (get-map (read_drawn new old) (drawn patch (length old)) at) ∙ sym (ap (λ xs. slice_get xs at) (patched-drawn patch new old counted)) ∙ get-map Some (patched patch new old) at ∙ ap (option_map Some) is)
+  where
+    by_source : (d : Option Drawn) → slice_get (drawn patch (length old)) at ≡ d → option_map (read_drawn new old) d ≡ Some (Some e)
+        → ((place : ℕ) × IsKeptFrom patch (length old) place at × (slice_get old place ≡ Some e)) ⊎ ((index : ℕ) × (slice_get new index ≡ Some e))
+    by_source None there read = cc
+    by_source (Some (inl place)) there read =
+        inl (place, sym (ap (λ xs. slice_get xs at) (old_places-drawn patch (length old))) ∙ get-map old_of (drawn patch (length old)) at ∙ ap (option_map old_of) there, cc)
+    by_source (Some (inr index)) there read = inr (index, cc)
+
 -- each new element is copied
 new_stands : {A : Type 0} (e : A) (old new : List A) (low size index : ℕ) (operations : List Operation) → index < length (insertions operations) → slice_get new index ≡ Some e
     → Has e (patched_pieces old new (pieces_from low size operations))

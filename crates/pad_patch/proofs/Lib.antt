@@ -9,4 +9,5 @@ pub mod Undone
 pub mod Kept
 pub mod Inverses
 pub mod Backs
+pub mod Twice
 pub mod CallerLemmas

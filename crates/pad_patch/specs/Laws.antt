@@ -1,5 +1,5 @@
 -- What holds of every patch and every text.
-use Rattle.std.specs.Prelude.{◌≡◌, ℕ, ◌<◌, ◌⊎◌, List, [], All, Some, length, map, slice_get}
+use Rattle.std.specs.Prelude.{◌≡◌, ℕ, ◌<◌, ◌⊎◌, ◌↔◌, List, [], All, Some, Contains, length, map, slice_get}
 use Rattle.pad_text.specs.Text.{IsText}
 use Rattle.pad_patch.specs.declared.operation.Operation.{Operation}
 use Rattle.pad_patch.specs.declared.patch.Patch.{Patch}
@@ -58,6 +58,12 @@ KeptElementsStay A =
     (patch : Patch) (new old : List A) (place at : ℕ) (element : A) → length new ≡ length (inserted patch) → IsKeptFrom patch (length old) place at
     → slice_get old place ≡ Some element → slice_get (patched patch new old) at ≡ Some element
 
+-- each element of a copied list is a new one or that of a kept unit
+abbrev pub KeptOrNew : Type 0 → Type 0
+KeptOrNew A =
+    (patch : Patch) (new old : List A) (at : ℕ) (element : A) → length new ≡ length (inserted patch) → slice_get (patched patch new old) at ≡ Some element
+    → ((place : ℕ) × IsKeptFrom patch (length old) place at × (slice_get old place ≡ Some element)) ⊎ ((index : ℕ) × (slice_get new index ≡ Some element))
+
 -- each unit of a text is removed or kept
 abbrev pub RemovedOrKept : Type 0
 RemovedOrKept =
@@ -76,8 +82,19 @@ InverseGivesListsBack A =
     (patch : Patch) (text : List ℕ) (new old : List A) → ((index : ℕ) → ¬ (Overlaps patch index)) → ((index : ℕ) → ¬ (EndsAfter patch (length text) index))
     → length text ≡ length old → length new ≡ length (inserted patch) → patched (inverse patch text) (removed_by patch.ops old) (patched patch new old) ≡ old
 
--- a unit that the inverse keeps is one that the patch kept, turned round
+-- a unit that the inverse keeps is one that the patch kept, turned round, and it keeps each of them
 abbrev pub InverseTurnsRound : Type 0
 InverseTurnsRound =
     (patch : Patch) (text : List ℕ) (place at : ℕ) → ((index : ℕ) → ¬ (Overlaps patch index)) → ((index : ℕ) → ¬ (EndsAfter patch (length text) index))
-    → IsKeptFrom (inverse patch text) (length (text_after patch text)) at place → IsKeptFrom patch (length text) place at
+    → IsKeptFrom (inverse patch text) (length (text_after patch text)) at place ↔ IsKeptFrom patch (length text) place at
+
+-- the inverse of the inverse has the operations of the patch
+abbrev pub InverseOfInverse : Type 0
+InverseOfInverse =
+    (patch : Patch) (text : List ℕ) → ((index : ℕ) → ¬ (Overlaps patch index)) → ((index : ℕ) → ¬ (EndsAfter patch (length text) index))
+    → (inverse (inverse patch text) (text_after patch text)).ops ≡ patch.ops
+
+-- what operations remove of a list are the elements at the places that the patch removes
+abbrev pub RemovedAtPlaces : Type 0 → Type 0
+RemovedAtPlaces A =
+    (patch : Patch) (old : List A) (element : A) → Contains (removed_by patch.ops old) element ↔ ((place : ℕ) × Removes patch place × (slice_get old place ≡ Some element))

@@ -1,6 +1,6 @@
 //! Laws over the definitions, each proved once.
 ghost use Rattle.pad_patch.specs.Laws.{NoOperationsChangeNothing, LengthIsCounted, TextsStayTexts, FittingApplies, InverseGivesBack, InverseApplies, InverseInsertsTexts, OneOperationEach};
-ghost use Rattle.pad_patch.specs.Laws.{CopiesMap, KeptElementsStay, RemovedOrKept, KeptIsNotRemoved, InverseGivesListsBack, InverseTurnsRound};
+ghost use Rattle.pad_patch.specs.Laws.{CopiesMap, KeptElementsStay, RemovedOrKept, KeptIsNotRemoved, InverseGivesListsBack, InverseTurnsRound, InverseOfInverse, KeptOrNew, RemovedAtPlaces};
 
 /// A patch without operations leaves every text.
 pub fn no_operations_change_nothing()
@@ -52,6 +52,11 @@ pub fn kept_elements_stay<A>()
     ensures { KeptElementsStay A }
 {}
 
+/// Each element of a list that a patch copied is a new one or that of a kept unit.
+pub fn kept_or_new<A>()
+    ensures { KeptOrNew A }
+{}
+
 /// A patch removes each unit of a text or keeps it.
 pub fn removed_or_kept()
     ensures { RemovedOrKept }
@@ -67,7 +72,17 @@ pub fn inverse_gives_lists_back<A>()
     ensures { InverseGivesListsBack A }
 {}
 
-/// A unit that the inverse of a patch keeps is one that the patch kept.
+/// The units that the inverse of a patch keeps are those that the patch kept.
 pub fn inverse_turns_round()
     ensures { InverseTurnsRound }
+{}
+
+/// The inverse of the inverse of a patch has the patch's operations.
+pub fn inverse_of_inverse()
+    ensures { InverseOfInverse }
+{}
+
+/// What a patch removes of a list stands at the places that it removes.
+pub fn removed_at_places<A>()
+    ensures { RemovedAtPlaces A }
 {}

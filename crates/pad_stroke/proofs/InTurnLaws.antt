@@ -1,21 +1,21 @@
 -- Two works in turn over rows.
 use Rattle.std.proofs.Common.{◌≡◌, ℕ, zero, suc, ◌+◌, ◌<◌, ◌⊎◌, inl, inr, List, [], ◌∷◌, length, map, slice_index_or, refl, sym, ◌∙◌, ap, subst, arith}
-use Rattle.std.specs.Prelude.{Some, None, Option, slice_get, Contains}
+use Rattle.std.specs.Prelude.{Some, None, Option, ◌↔◌, slice_get, Contains}
 use Rattle.std.specs.Option.{option_map}
-use Rattle.std.proofs.lemmas.List.{length-map, get_or-map}
+use Rattle.std.proofs.lemmas.List.{length-map, length-replicate, get_or-map}
 use Rattle.std.proofs.lemmas.Option.{get_or_from_slice_get}
 use Rattle.pad_patch.specs.declared.patch.Patch.{Patch}
 use Rattle.pad_patch.specs.Piece.{patched, inserted, text_after}
 use Rattle.pad_patch.specs.Misfit.{CanApply}
 use Rattle.pad_patch.specs.Removed.{Removes, IsKeptFrom}
-use Rattle.pad_patch.proofs.CallerLemmas.{Has, at_has, has_at, contains_has, has_contains, has_map, get-map, map-map, kept_element}
+use Rattle.pad_patch.proofs.CallerLemmas.{Has, at_has, has_at, contains_has, has_contains, has_map, get-map, map-map, kept_element, kept_or_new}
 use Rattle.pad_merge.specs.declared.origin.Origin.{Origin}
 use Rattle.pad_merge.specs.declared.origin.Origin.TheVariants.{First, Second}
 use Rattle.pad_merge.specs.Origin.{origins, named_in}
 use Rattle.pad_merge.specs.Merge.{merged, CanMerge}
-use Rattle.pad_merge.proofs.CallerLemmas.{length-origins, patched-merged, removes_merged, first_stands}
+use Rattle.pad_merge.proofs.CallerLemmas.{length-origins, patched-merged, removes_merged, merged_removes, first_stands}
 use Rattle.pad_stroke.specs.declared.mark.Mark.{Mark}
-use Rattle.pad_stroke.specs.Row.{Row, row_after, shown_row, IsRemovedFrom}
+use Rattle.pad_stroke.specs.Row.{Row, no_marks, row_after, shown_row, IsRemovedFrom}
 use Rattle.pad_stroke.specs.InTurn.{no_mark, mark_from, in_turn}
 use Rattle.pad_stroke.specs.Work.{Marked}
 
@@ -85,3 +85,30 @@ in_turn_removes first second row mark can counted (place, removes, is) =
       | inr by_second ↦
           inr (by_second.0, by_second.2, kept_element first.patch (map Some first.marks) row place by_second.0 (Some mark) (length-map first.marks Some ∙ counted) by_second.1 is)
     ]
+
+no_mark_there : (count index : ℕ) (mark : Mark) → slice_get (no_marks count) index ≡ Some (Some mark) → ⊥
+no_mark_there zero index mark is = cc
+no_mark_there (suc count) zero mark is = let never : None ≡ Some mark = cc in cc
+no_mark_there (suc count) (suc index) mark is = no_mark_there count index mark is
+
+-- they remove just what the first one removes, and what the second one removes of the rest
+pub in_turn_removes_just : (first second : Marked) (row : Row) (mark : Mark) → CanMerge first.patch second.patch (length row)
+    → IsRemovedFrom (in_turn first second (length row)).patch row mark
+    ↔ (IsRemovedFrom first.patch row mark ⊎ IsRemovedFrom second.patch (row_after first.patch (no_marks (length (inserted first.patch))) row) mark)
+unfolding in_turn
+in_turn_removes_just first second row mark can =
+    let size = length row in
+    let nothing = no_marks (length (inserted first.patch)) in
+    let counted : length nothing ≡ length (inserted first.patch) = length-replicate (length (inserted first.patch)) None in (
+      λ (place, removes, is). elim ((merged_removes first.patch second.patch size place can).0 removes) [
+        | inl by_first ↦ inl (place, by_first, is)
+        | inr by_second ↦ inr (by_second.0, by_second.2, kept_element first.patch nothing row place by_second.0 (Some mark) counted by_second.1 is)
+      ],
+      λ removed. elim removed [
+        | inl (place, by_first, is) ↦ (place, (merged_removes first.patch second.patch size place can).1 (inl by_first), is)
+        | inr (at, by_second, is) ↦ elim (kept_or_new first.patch nothing row at (Some mark) counted is) [
+          | inl found ↦ (found.0, (merged_removes first.patch second.patch size found.0 can).1 (inr (at, found.1, by_second)), found.2)
+          | inr none ↦ absurd (no_mark_there (length (inserted first.patch)) none.0 mark none.1)
+        ]
+      ],
+    )

@@ -4,7 +4,7 @@ ghost use Rattle.pad_text.specs.Text.{IsText};
 ghost use Rattle.pad_text.specs.Hash.{document_hash};
 ghost use Rattle.pad_patch.specs.Piece.{text_after, inserted};
 ghost use Rattle.pad_patch.specs.Misfit.{CanApply};
-ghost use Rattle.pad_merge.specs.Merge.{CanMerge};
+ghost use Rattle.pad_merge.specs.Merge.{CanMerge, CanMergeBack};
 ghost use Rattle.pad_transform.specs.Table.{transformed_all, SumsFitThrough};
 ghost use Rattle.pad_transform.specs.Carried.{BothApply, FitsButLength, RemovesOnlyKept};
 
@@ -16,7 +16,7 @@ use crate::stripping::{strip_marks, strip_operations};
 use pad_merge::laws::{
     applied_patches_merge, merged_applies, no_origin_twice, one_origin_each, origins_name_units,
 };
-use pad_merge::merge_from;
+use pad_merge::{can_merge_back, merge_from};
 use pad_patch::{Operation, Operations, Patch, UnitStore};
 use pad_text::{Name, Text};
 use pad_transform::transform;
@@ -115,6 +115,16 @@ impl Work {
     {
         *self = of.followed_by(alloc, &self.patch, self.marks.as_slice(), len)?;
         Ok(())
+    }
+
+    /// Whether a work that was sent can be taken back on a text of `len` units, where `back` is the patch that has just taken
+    /// back the message that it was sent as: what `take_back` asks, and that `back` has the ranges of that work's inverse. If
+    /// so, what comes of it can be applied to that text. It takes no memory.
+    pub fn can_take_back(&self, of: &Work, back: &Patch, len: usize) -> bool
+        ensures can { IsTrue result ↔ CanMergeBack of.now.patch back.now self.now.patch len }
+        ensures work { IsWork self.now }
+    {
+        can_merge_back(&of.patch, back, &self.patch, len)
     }
 
     /// Carries the work over a patch on the same text; `after` is the document hash of the text after that patch. Each

@@ -1,6 +1,7 @@
 //! Rows of values that were worked out by hand.
 ghost use Rattle.std.specs.Prelude.{◌≡◌, ◌^◌, ◌<◌, length, IsTrue, IfSome, All};
 ghost use Rattle.pad_text.specs.Hash.{document_hash};
+ghost use Rattle.pad_text.specs.Text.{IsText};
 ghost use Rattle.pad_patch.specs.Piece.{inserted};
 ghost use Rattle.pad_patch.specs.declared.misfit.Misfit.TheVariants.{TooLong};
 ghost use Rattle.pad_patch.specs.Misfit.{CanApply};
@@ -24,14 +25,25 @@ fn operation_of(alloc: Global, (offset, remove, insert): Row) -> Result<Operatio
     })
 }
 
+/// A patch of these operations.
+fn patch_of(alloc: Global, rows: &[Row]) -> Result<Patch, AllocError> {
+    let mut ops = Vec::new(alloc);
+    for row in rows {
+        ops.push(operation_of(alloc, *row)?)?;
+    }
+    Ok(Patch {
+        ops: Operations::new(ops),
+        before: Name::BASE,
+    })
+}
+
 /// A store of this text.
 fn store_of(alloc: Global, text: &str) -> Result<VecUnits, AllocError> {
     VecUnits::from_text(alloc, &Text::from_str(alloc, text)?)
 }
 
-/// The operations of a work in brackets, and then its marks.
-fn row_of(alloc: Global, work: &Work) -> Result<String, AllocError> {
-    let mut row = String::new(alloc);
+/// Writes the operations of a work in brackets, and then its marks.
+fn write_row(alloc: Global, row: &mut String, work: &Work) -> Result<(), AllocError> {
     for op in work.patch.ops.as_slice() {
         let insert = op.insert.to_string(alloc)?;
         let part = format!(in alloc; "[{},{},{}]", op.offset, op.remove, insert)?;
@@ -41,7 +53,7 @@ fn row_of(alloc: Global, work: &Work) -> Result<String, AllocError> {
         let part = format!(in alloc; "({},{})", mark.stroke, mark.index)?;
         row.push_str(part.as_str())?;
     }
-    Ok(row)
+    Ok(())
 }
 
 /// The word for how an edit went.
@@ -97,245 +109,90 @@ fn edit<S: UnitStore>(
     "unmet "
 }
 
-/// A new work on this text after edits, each with the next stroke from 1 on, and how they went.
-fn edited<S: UnitStore>(
+/// Edits a work, each time with the next stroke from 1 on, and writes how the edits went.
+fn edit_all<S: UnitStore>(
     alloc: Global,
+    work: &mut Work,
     text: &S,
     rows: &[Row],
-) -> Result<(String, Work), AllocError> {
+    told: &mut String,
+) -> Result<(), AllocError> {
     let hash = text.hash(alloc)?;
-    let mut work = Work::new(alloc, hash)?;
-    let mut told = String::new(alloc);
     let mut stroke = 0u64;
     for row in rows {
         stroke = stroke.saturating_add(1);
-        let op = operation_of(alloc, *row)?;
-        told.push_str(edit(alloc, &mut work, text, &hash, op, stroke))?;
+        told.push_str(edit(alloc, work, text, &hash, operation_of(alloc, *row)?, stroke))?;
     }
-    Ok((told, work))
+    Ok(())
+}
+
+/// A new work on this text after edits.
+fn edited(alloc: Global, text: &str, rows: &[Row], told: &mut String) -> Result<Work, AllocError> {
+    let store = store_of(alloc, text)?;
+    let mut work = Work::new(alloc, store.hash(alloc)?)?;
+    edit_all(alloc, &mut work, &store, rows, told)?;
+    Ok(work)
 }
 
 /// How edits of a new work on this text went, and then the work.
 fn told(alloc: Global, text: &str, rows: &[Row]) -> Result<String, AllocError> {
-    let (mut told, work) = edited(alloc, &store_of(alloc, text)?, rows)?;
-    told.push_str(row_of(alloc, &work)?.as_str())?;
+    let mut told = String::new(alloc);
+    let work = edited(alloc, text, rows, &mut told)?;
+    write_row(alloc, &mut told, &work)?;
     Ok(told)
 }
 
 #[test]
 fn edits_are_merged_with_their_marks(rt: HostRuntime) -> Result<(), Fail> {
-    let alloc = rt.alloc();
-    let work = told(alloc, "abc", &[(3, 0, "xy"), (4, 0, "z"), (7, 0, "a")])?;
-    assert_eq!(rt; work.as_str(), "Range [3,0,xzy](1,0)(2,0)(1,1)");
-    // What is taken out again leaves no mark, and an edit of nothing changes nothing.
-    let rows = [(3, 0, "xy"), (4, 0, "z"), (3, 2, ""), (0, 0, "")];
-    assert_eq!(rt; told(alloc, "abc", &rows)?.as_str(), "[3,0,y](1,1)");
-    Ok(())
-}
-
-#[test]
-fn edits_are_merged_with_pairs_between_them(rt: HostRuntime) -> Result<(), Fail> {
-    let alloc = rt.alloc();
-    // The edits of a work on "ab", and the work.
-    let table: [(&[Row], &str); 5] = [
+    // A text, edits, and the work. Pairs, strokes between one another, and edits that are refused.
+    let table: [(&str, &[Row], &str); 7] = [
         (
+            "abc",
+            &[(3, 0, "xy"), (4, 0, "z"), (7, 0, "a")],
+            "Range [3,0,xzy](1,0)(2,0)(1,1)",
+        ),
+        (
+            "abc",
+            &[(3, 0, "xy"), (4, 0, "z"), (3, 2, ""), (0, 0, "")],
+            "[3,0,y](1,1)",
+        ),
+        (
+            "ab",
             &[(1, 0, "\u{1F600}x"), (3, 0, "y")],
             "[1,0,\u{1F600}yx](1,0)(1,1)(2,0)(1,2)",
         ),
         (
-            &[(1, 0, "\u{1F600}x"), (3, 0, "y"), (1, 2, "")],
-            "[1,0,yx](2,0)(1,2)",
-        ),
-        (
+            "ab",
             &[(1, 0, "x\u{1F600}"), (2, 0, "\u{1F601}")],
             "[1,0,x\u{1F601}\u{1F600}](1,0)(2,0)(2,1)(1,1)(1,2)",
         ),
         (
+            "ab",
             &[(0, 1, "\u{1F600}\u{1F601}"), (2, 3, "z")],
             "[0,2,\u{1F600}z](1,0)(1,1)(2,0)",
         ),
         (
+            "ab",
             &[(1, 0, "\u{1F600}"), (0, 0, "p"), (4, 0, "q"), (2, 2, "")],
             "[0,0,p][1,0,q](2,0)(3,0)",
         ),
+        (
+            "a\u{1F600}",
+            &[
+                (2, 0, "x"),
+                (0, 2, ""),
+                (1, 0, "\u{1F601}"),
+                (2, 0, "x"),
+                (2, 9, "x"),
+                (3, 2, "x"),
+            ],
+            "Pair Pair Pair Range [1,2,\u{1F601}x](3,0)(3,1)(6,0)",
+        ),
     ];
-    for (rows, wanted) in table {
-        assert_eq!(rt; told(alloc, "ab", rows)?.as_str(), wanted);
+    for (text, rows, wanted) in table {
+        assert_eq!(rt; told(rt.alloc(), text, rows)?.as_str(), wanted);
     }
     Ok(())
-}
-
-#[test]
-fn an_edit_inside_a_pair_is_refused(rt: HostRuntime) -> Result<(), Fail> {
-    // A pair of the text, one that was typed, and a range that also ends after the text.
-    let rows = [
-        (2, 0, "x"),
-        (0, 2, ""),
-        (1, 0, "\u{1F601}"),
-        (2, 0, "x"),
-        (2, 9, "x"),
-        (3, 2, "x"),
-    ];
-    let work = told(rt.alloc(), "a\u{1F600}", &rows)?;
-    assert_eq!(rt;
-        work.as_str(),
-        "Pair Pair Pair Range [1,2,\u{1F601}x](3,0)(3,1)(6,0)"
-    );
-    Ok(())
-}
-
-/// A text of so many letters.
-fn letters(alloc: Global, count: u32) -> Result<String, AllocError> {
-    let mut letters = String::new(alloc);
-    for _ in 0..count {
-        letters.push('a')?;
-    }
-    Ok(letters)
-}
-
-#[test]
-fn a_text_that_is_as_long_as_it_may_be_does_not_grow(rt: HostRuntime) -> Result<(), Fail> {
-    let text = letters(rt.alloc(), 262_144)?;
-    let rows = [(0, 0, "c"), (0, 1, "c"), (0, 1, ""), (0, 0, "d")];
-    let work = told(rt.alloc(), text.as_str(), &rows)?;
-    assert_eq!(rt; work.as_str(), "TooLong [0,1,d](4,0)");
-    Ok(())
-}
-
-#[test]
-fn a_text_that_is_too_long_may_shrink(rt: HostRuntime) -> Result<(), Fail> {
-    let alloc = rt.alloc();
-    let text = store_of(alloc, "")?;
-    let mut work = Work::new(alloc, text.hash(alloc)?)?;
-    let op = Operation {
-        offset: 0,
-        remove: 0,
-        insert: Text::from_str(alloc, letters(alloc, 262_144)?.as_str())?,
-    };
-    let hash = text.hash(alloc)?;
-    assert_eq!(rt; edit(alloc, &mut work, &text, &hash, op, 1), "");
-    // Another's `b` comes: the shown text has a unit too many, and may not grow.
-    let text = store_of(alloc, "b")?;
-    let hash = text.hash(alloc)?;
-    assert!(rt; through(alloc, &mut work, (0, 0, "b"), &hash)?);
-    let rows: [(Row, &str); 6] = [
-        ((0, 0, "c"), "TooLong "),
-        ((0, 1, "cd"), "TooLong "),
-        ((0, 1, ""), ""),
-        ((0, 0, "c"), "TooLong "),
-        ((262_143, 1, ""), ""),
-        ((0, 0, "c"), ""),
-    ];
-    let mut stroke = 1u64;
-    for (row, word) in &rows {
-        stroke = stroke.saturating_add(1);
-        let op = operation_of(alloc, *row)?;
-        assert_eq!(rt; edit(alloc, &mut work, &text, &hash, op, stroke), *word);
-    }
-    assert_eq!(rt; inserted_units(&work.patch), Some(262_144));
-    Ok(())
-}
-
-#[test]
-fn a_work_tells_what_it_has(rt: HostRuntime) -> Result<(), Fail> {
-    let alloc = rt.alloc();
-    let (_, work) = edited(alloc, &store_of(alloc, "abc")?, &[(1, 1, "xy")])?;
-    assert!(rt; !work.is_empty());
-    assert!(rt;
-        work.holds(Mark {
-            stroke: 1,
-            index: 1
-        })
-    );
-    assert!(rt;
-        !work.holds(Mark {
-            stroke: 1,
-            index: 2
-        })
-    );
-    assert_eq!(rt;
-        row_of(alloc, &work.copy(alloc)?)?.as_str(),
-        "[1,1,xy](1,0)(1,1)"
-    );
-    assert_eq!(rt; work.patch(alloc)?.ops.into_vec().len(), 1);
-    Ok(())
-}
-
-/// Whether no unit of a text is a surrogate.
-fn is_plain(text: &Text) -> bool
-    ensures { IsTrue result → All (λ unit. unit < 55296) text.now }
-{
-    text.as_units().iter().all(|unit| *unit < 0xD800)
-}
-
-/// Whether no inserted unit is a surrogate.
-fn is_plain_patch(patch: &Patch) -> bool
-    ensures { IsTrue result → All (λ operation. All (λ unit. unit < 55296) operation.insert) patch.now.ops }
-{
-    patch.ops.as_slice().iter().all(|op| is_plain(&op.insert))
-}
-
-/// A work without the units of another one, where it inserts no surrogate.
-fn without(mut work: Work, of: &Work) -> Work {
-    if is_plain_patch(&work.patch) {
-        work.strip(of);
-    }
-    work
-}
-
-#[test]
-fn a_work_is_stripped_of_another(rt: HostRuntime) -> Result<(), Fail> {
-    let alloc = rt.alloc();
-    let text = store_of(alloc, "abc")?;
-    let (_, work) = edited(alloc, &text, &[(3, 0, "xy"), (4, 0, "z")])?;
-    let (_, of) = edited(alloc, &text, &[(3, 0, "x")])?;
-    let left = without(work, &of);
-    assert_eq!(rt; row_of(alloc, &left)?.as_str(), "[3,0,zy](2,0)(1,1)");
-    // An operation that is empty then is left out, and one that removes stays.
-    let (_, work) = edited(alloc, &text, &[(3, 0, "x"), (0, 1, "")])?;
-    assert_eq!(rt; row_of(alloc, &without(work, &of))?.as_str(), "[0,1,]");
-    Ok(())
-}
-
-/// A work that was sent as it is, without the units of what was sent.
-fn without_sent(alloc: Global, mut work: Work) -> Result<Work, AllocError> {
-    pairs_stay_whole();
-    let sent = work.copy(alloc)?;
-    work.strip(&sent);
-    Ok(work)
-}
-
-#[test]
-fn sent_work_is_stripped_with_its_pairs(rt: HostRuntime) -> Result<(), Fail> {
-    let alloc = rt.alloc();
-    let text = store_of(alloc, "abc")?;
-    let (_, work) = edited(alloc, &text, &[(3, 0, "\u{1F600}"), (1, 1, "x")])?;
-    let left = without_sent(alloc, work)?;
-    assert_eq!(rt; row_of(alloc, &left)?.as_str(), "[1,1,]");
-    Ok(())
-}
-
-/// Takes back a work on this text, where the conditions hold, and tells whether they do.
-fn take_back<S: UnitStore>(
-    alloc: Global,
-    work: &mut Work,
-    of: &Work,
-    text: &S,
-) -> Result<bool, AllocError> {
-    applied_patches_merge();
-    let hash = text.hash(alloc)?;
-    let size = text.length();
-    let applies = of.patch.fits(text, &hash).is_ok();
-    if !applies || 1000 < size {
-        return Ok(false);
-    }
-    let after = of.patch.apply(alloc, text)?;
-    let after_hash = after.hash(alloc)?;
-    if work.patch.fits(&after, &after_hash).is_ok() {
-        work.take_back(alloc, of, size)?;
-        return Ok(true);
-    }
-    Ok(false)
 }
 
 /// How many units a patch inserts, where a number can say so.
@@ -362,49 +219,223 @@ fn has_room(patch: &Patch, by: &Patch) -> bool
     units <= 1000 && patch.ops.as_slice().iter().all(|op| op.end() <= 1000)
 }
 
-/// Carries a work over a patch of this operation, where there is room, and tells whether there is.
-fn through(alloc: Global, work: &mut Work, row: Row, after: &Name) -> Result<bool, AllocError> {
-    let mut ops = Vec::new(alloc);
-    ops.push(operation_of(alloc, row)?)?;
-    let by = Patch {
-        ops: Operations::new(ops),
-        before: Name::BASE,
-    };
-    if has_room(&work.patch, &by) {
-        work.through(alloc, &by, after)?;
-        return Ok(true);
+/// Carries a work over a patch, if there is room.
+fn through(alloc: Global, work: &mut Work, by: &Patch) -> Result<(), AllocError> {
+    if has_room(&work.patch, by) {
+        work.through(alloc, by, &Name::BASE)?;
     }
-    Ok(false)
+    Ok(())
+}
+
+/// Takes back a work that was sent on a text of so many units, if that can be, and writes what comes of it; then carries
+/// the work over a patch, and writes it again.
+fn go_on(
+    alloc: Global,
+    work: &mut Work,
+    sent: &Work,
+    (back, len): (&Patch, usize),
+    by: &Patch,
+) -> Result<String, AllocError> {
+    let mut row = String::new(alloc);
+    if len < 1000 && work.can_take_back(sent, back, len) {
+        work.take_back(alloc, sent, len)?;
+        write_row(alloc, &mut row, work)?;
+    }
+    through(alloc, work, by)?;
+    row.push_str(" by ")?;
+    write_row(alloc, &mut row, work)?;
+    Ok(row)
+}
+
+/// A work that is sent on a text, and then one on the text after it; the patch that takes the message back; another's patch.
+type Story = (
+    &'static str,
+    &'static [Row],
+    &'static str,
+    &'static [Row],
+    &'static [Row],
+    Row,
+);
+
+fn row_of(
+    alloc: Global,
+    (text, sent, after, edits, back, by): Story,
+) -> Result<String, AllocError> {
+    let mut none = String::new(alloc);
+    let sent = edited(alloc, text, sent, &mut none)?;
+    let mut work = edited(alloc, after, edits, &mut none)?;
+    let back = patch_of(alloc, back)?;
+    go_on(
+        alloc,
+        &mut work,
+        &sent,
+        (&back, text.len()),
+        &patch_of(alloc, &[by])?,
+    )
 }
 
 #[test]
 fn work_is_taken_back_and_carried(rt: HostRuntime) -> Result<(), Fail> {
-    let alloc = rt.alloc();
-    let text = store_of(alloc, "")?;
-    let (_, sent) = edited(alloc, &text, &[(0, 0, "hi")])?;
-    let (_, mut work) = edited(alloc, &store_of(alloc, "hi")?, &[(0, 0, ""), (1, 0, "o")])?;
-    // The message is reverted: what it inserts is work again. Two other messages come, and leave again.
-    assert!(rt; take_back(alloc, &mut work, &sent, &text)?);
-    for row in [(0, 0, "abc"), (3, 0, "!"), (3, 1, ""), (0, 3, "")] {
-        assert_eq!(rt; row_of(alloc, &work)?.as_str(), "[0,0,hoi](1,0)(2,0)(1,1)");
-        assert!(rt; through(alloc, &mut work, row, &Name::BASE)?);
+    let table: [(Story, &str); 5] = [
+        (
+            (
+                "",
+                &[(0, 0, "hi")],
+                "hi",
+                &[(0, 0, ""), (1, 0, "o")],
+                &[(0, 2, "")],
+                (0, 0, "abc"),
+            ),
+            "[0,0,hoi](1,0)(2,0)(1,1) by [0,0,hoi](1,0)(2,0)(1,1)",
+        ),
+        // Marks that stand in both works stay as they are, also where a pair takes the place of a unit.
+        (
+            (
+                "",
+                &[(0, 0, "\u{1F600}"), (2, 0, "x")],
+                "\u{1F600}x",
+                &[(0, 0, "a"), (3, 1, "\u{1F601}")],
+                &[(0, 3, "")],
+                (0, 0, "b"),
+            ),
+            "[0,0,a\u{1F600}\u{1F601}](1,0)(1,0)(1,1)(2,0)(2,1) by [0,0,a\u{1F600}\u{1F601}](1,0)(1,0)(1,1)(2,0)(2,1)",
+        ),
+        // A pair between two units of a stroke, and one that goes.
+        (
+            (
+                "ab",
+                &[(1, 0, "\u{1F600}x"), (3, 0, "y")],
+                "a\u{1F600}yxb",
+                &[(3, 0, "\u{1F601}"), (1, 2, "")],
+                &[(1, 4, "")],
+                (0, 1, ""),
+            ),
+            "[1,0,\u{1F601}yx](1,0)(1,1)(2,0)(1,2) by [0,0,\u{1F601}yx](1,0)(1,1)(2,0)(1,2)",
+        ),
+        // Another message was reverted under the name of the one that was sent.
+        (
+            (
+                "abc",
+                &[(1, 0, "x")],
+                "abc",
+                &[(1, 1, "x"), (3, 0, "y")],
+                &[(2, 1, "")],
+                (2, 1, ""),
+            ),
+            " by [1,1,xy](1,0)(2,0)",
+        ),
+        // Operations that come to touch are joined.
+        (
+            (
+                "abcde",
+                &[],
+                "abcde",
+                &[(1, 1, "x"), (3, 1, "y")],
+                &[],
+                (2, 1, ""),
+            ),
+            "[1,1,x][3,1,y](1,0)(2,0) by [1,2,xy](1,0)(2,0)",
+        ),
+    ];
+    for (story, wanted) in table {
+        assert_eq!(rt; row_of(rt.alloc(), story)?.as_str(), wanted);
     }
-    assert_eq!(rt; row_of(alloc, &work)?.as_str(), "[0,0,hoi](1,0)(2,0)(1,1)");
     Ok(())
 }
 
+/// Whether no unit of a text is a surrogate.
+fn is_plain(text: &Text) -> bool
+    ensures { IsTrue result → All (λ unit. unit < 55296) text.now }
+{
+    text.as_units().iter().all(|unit| *unit < 0xD800)
+}
+
+/// Whether no inserted unit is a surrogate.
+fn is_plain_patch(patch: &Patch) -> bool
+    ensures { IsTrue result → All (λ operation. All (λ unit. unit < 55296) operation.insert) patch.now.ops }
+{
+    patch.ops.as_slice().iter().all(|op| is_plain(&op.insert))
+}
+
+/// A work without the units of another one, where it inserts no surrogate.
+fn without(mut work: Work, of: &Work) -> Work {
+    if is_plain_patch(&work.patch) {
+        work.strip(of);
+    }
+    work
+}
+
+/// A work that was sent as it is, without the units of what was sent.
+fn without_sent(alloc: Global, mut work: Work) -> Result<Work, AllocError> {
+    pairs_stay_whole();
+    let sent = work.copy(alloc)?;
+    work.strip(&sent);
+    Ok(work)
+}
+
+/// A work on "abc" without the units of another one; if that has none, without its own.
+fn stripped(alloc: Global, rows: &[Row], of: &[Row]) -> Result<String, AllocError> {
+    let mut row = String::new(alloc);
+    let work = edited(alloc, "abc", rows, &mut row)?;
+    let of = edited(alloc, "abc", of, &mut row)?;
+    let left = if of.is_empty() {
+        without_sent(alloc, work)?
+    } else {
+        without(work, &of)
+    };
+    write_row(alloc, &mut row, &left)?;
+    Ok(row)
+}
+
 #[test]
-fn work_with_equal_marks_is_taken_back_as_it_is(rt: HostRuntime) -> Result<(), Fail> {
+fn work_is_stripped(rt: HostRuntime) -> Result<(), Fail> {
+    // An operation that is empty then is left out, and one that removes stays.
+    let table: [(&[Row], &[Row], &str); 3] = [
+        (
+            &[(3, 0, "xy"), (4, 0, "z")],
+            &[(3, 0, "x")],
+            "[3,0,zy](2,0)(1,1)",
+        ),
+        (&[(3, 0, "x"), (0, 1, "")], &[(3, 0, "x")], "[0,1,]"),
+        (&[(3, 0, "\u{1F600}"), (1, 1, "x")], &[], "[1,1,]"),
+    ];
+    for (rows, of, wanted) in table {
+        assert_eq!(rt; stripped(rt.alloc(), rows, of)?.as_str(), wanted);
+    }
+    Ok(())
+}
+
+/// A text of so many letters.
+fn letters(alloc: Global, count: u32) -> Result<String, AllocError> {
+    let mut letters = String::new(alloc);
+    for _ in 0..count {
+        letters.push('a')?;
+    }
+    Ok(letters)
+}
+
+#[test]
+fn a_text_that_is_too_long_may_shrink(rt: HostRuntime) -> Result<(), Fail> {
     let alloc = rt.alloc();
-    // Both works were typed by strokes 1 and 2, so marks stand in both.
-    let text = store_of(alloc, "")?;
-    let (_, sent) = edited(alloc, &text, &[(0, 0, "\u{1F600}"), (2, 0, "x")])?;
-    let after = store_of(alloc, "\u{1F600}x")?;
-    let (_, mut work) = edited(alloc, &after, &[(0, 0, "a"), (3, 1, "\u{1F601}")])?;
-    assert!(rt; take_back(alloc, &mut work, &sent, &text)?);
+    // A work that inserts the longest text comes to stand on a text of one letter more: it may not grow.
+    let mut text = letters(alloc, 262_144)?;
+    let rows = [(0, 0, "c"), (0, 1, "c"), (0, 1, ""), (0, 0, "d")];
     assert_eq!(rt;
-        row_of(alloc, &work)?.as_str(),
-        "[0,0,a\u{1F600}\u{1F601}](1,0)(1,0)(1,1)(2,0)(2,1)"
+        told(alloc, text.as_str(), &rows)?.as_str(),
+        "TooLong [0,1,d](4,0)"
+    );
+    text.push('b')?;
+    let rows = [
+        (0, 0, "c"),
+        (0, 1, "cd"),
+        (0, 1, ""),
+        (0, 0, "c"),
+        (262_143, 1, ""),
+        (0, 0, "c"),
+    ];
+    assert_eq!(rt;
+        told(alloc, text.as_str(), &rows)?.as_str(),
+        "TooLong TooLong TooLong [0,1,c][262144,1,](6,0)"
     );
     Ok(())
 }
@@ -425,54 +456,33 @@ fn moved(mut work: Work, before: Name) -> Work {
 }
 
 #[test]
-fn work_is_moved_to_another_text(rt: HostRuntime) -> Result<(), Fail> {
+fn a_work_tells_what_it_has(rt: HostRuntime) -> Result<(), Fail> {
     let alloc = rt.alloc();
-    let (_, work) = edited(alloc, &store_of(alloc, "")?, &[(0, 0, "h\u{1F600}")])?;
-    let hash = store_of(alloc, "abc")?.hash(alloc)?;
-    let work = moved(work, hash);
-    assert!(rt; work.patch(alloc)?.before == hash);
-    assert_eq!(rt;
-        row_of(alloc, &work)?.as_str(),
-        "[0,0,h\u{1F600}](1,0)(1,1)(1,2)"
+    let mut row = String::new(alloc);
+    let work = moved(
+        edited(alloc, "abc", &[(1, 0, "x\u{1F600}"), (2, 0, "p")], &mut row)?,
+        Name::BASE,
     );
-    Ok(())
-}
-
-#[test]
-fn a_work_tells_its_marks(rt: HostRuntime) -> Result<(), Fail> {
-    let alloc = rt.alloc();
-    let rows = [(1, 0, "xyz"), (2, 0, "p")];
-    let (_, work) = edited(alloc, &store_of(alloc, "abc")?, &rows)?;
     let marks = work.marks();
-    assert_eq!(rt; marks.len(), 4);
-    if 3 < marks.len() {
-        assert_eq!(rt;
-            work.mark_at(1),
-            Mark {
-                stroke: 2,
-                index: 0
-            }
-        );
-        assert_eq!(rt;
-            work.mark_at(3),
-            Mark {
-                stroke: 1,
-                index: 2
-            }
-        );
-    }
-    assert!(rt; work.is_new_stroke(3));
-    assert!(rt; !work.is_new_stroke(2));
-    Ok(())
-}
-
-#[test]
-fn operations_that_come_to_touch_are_joined(rt: HostRuntime) -> Result<(), Fail> {
-    let alloc = rt.alloc();
-    let rows = [(1, 1, "x"), (3, 1, "y")];
-    let (_, mut work) = edited(alloc, &store_of(alloc, "abcde")?, &rows)?;
-    assert_eq!(rt; row_of(alloc, &work)?.as_str(), "[1,1,x][3,1,y](1,0)(2,0)");
-    assert!(rt; through(alloc, &mut work, (2, 1, ""), &Name::BASE)?);
-    assert_eq!(rt; row_of(alloc, &work)?.as_str(), "[1,2,xy](1,0)(2,0)");
+    assert!(rt;
+        marks.len() == 4
+            && work.mark_at(1)
+                == Mark {
+                    stroke: 2,
+                    index: 0
+                }
+    );
+    assert!(rt;
+        work.holds(Mark {
+            stroke: 1,
+            index: 2
+        }) && !work.holds(Mark {
+            stroke: 1,
+            index: 3
+        })
+    );
+    assert!(rt; work.is_new_stroke(3) && !work.is_new_stroke(2) && !work.is_empty());
+    let patch = work.patch(alloc)?;
+    assert!(rt; patch.before == Name::BASE && patch.ops.as_slice().len() == 1);
     Ok(())
 }

@@ -1,5 +1,5 @@
-use Rattle.pad_merge.proofs.Removals.{removes_merged}
+use Rattle.pad_merge.proofs.Removals.{merged_removes}
 use Rattle.pad_merge.proofs.laws.merged_removes.Goals as goal
 
 pub returns : goal.returns
-returns c = removes_merged
+returns c = merged_removes
