@@ -6,7 +6,7 @@ use Rattle.std.proofs.Math.Seq.{take-add}
 use Rattle.std.proofs.lemmas.List.{take-append-drop, drop-drop, take_all, take_at, drop_at, length-take-le, append-nil, length-append, length-drop}
 use Rattle.std.proofs.lemmas.Option.{slice_get_read, slice_get_within, get_or_from_slice_get}
 use Rattle.pad_text.specs.Text.{IsText, CutsPair}
-use Rattle.pad_text.proofs.CallerLemmas.{IsText-nil, IsText-take, IsText-append, IsText-between}
+use Rattle.pad_text.proofs.CallerLemmas.{IsText-nil, IsText-take, IsText-append, IsText-between, end-cuts_none}
 use Rattle.pad_patch.specs.declared.operation.Operation.{Operation}
 use Rattle.pad_patch.specs.declared.patch.Patch.{Patch}
 use Rattle.std.proofs.lemmas.List.Sums.{sum_by-cons}
@@ -15,7 +15,6 @@ use Rattle.pad_patch.specs.Piece.{keep, new_units, end_of, pieces_from, size_of_
 use Rattle.pad_patch.specs.Misfit.{EndsAfter, CutsPairAt, CanApply, Fits}
 use Rattle.pad_patch.specs.declared.misfit.Misfit.TheVariants.{Order, Range, Pair}
 use Rattle.pad_patch.specs.UnitStore.{IsRange, between, replaced}
-use Rattle.pad_patch.proofs.Cuts.{end-cuts_none}
 use Rattle.pad_patch.proofs.Patched.{units_of_piece, patched-units}
 use Rattle.pad_patch.proofs.Laid.{IsLaid, Inside, inside_of, laid, IsLaid-at, IsLaid-before, ordered_laid, inside_laid}
 

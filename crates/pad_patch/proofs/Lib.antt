@@ -1,5 +1,4 @@
 pub mod Elements
-pub mod Cuts
 pub mod Laid
 pub mod Patched
 pub mod Copies
