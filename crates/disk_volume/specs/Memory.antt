@@ -6,7 +6,7 @@ use Rattle.disk_volume.specs.Clock.{Ticked}
 use Rattle.disk_volume.specs.Disk.{Disk, began}
 use Rattle.disk_volume.specs.Folder.{bytes_in}
 use Rattle.disk_volume.specs.Step.{Step, replay}
-use Rattle.disk_volume.specs.Stop.{stops_in, has_stopped, stop_after, StopLater}
+use Rattle.disk_volume.specs.Stop.{stops_in, has_stopped, stop_after, stop_later}
 use Rattle.disk_volume.specs.declared.stop.Stop.{Stop}
 use Rattle.disk_volume.specs.declared.stop.Stop.TheVariants.{Unset}
 
@@ -91,5 +91,5 @@ pub record Follows (old new : Memory) : Type 0 where
   pub calls : old.calls ≤ new.calls
   pub refused : old.starved ≤ new.starved
   pub later : old.faults ≤ new.faults
-  pub stop : StopLater old.calls old.stop new.calls new.stop
+  pub stop : new.stop ≡ stop_later old.calls old.stop new.calls
   pub faults : (new.faults ≡ old.faults) ⊎ MayFail old new

@@ -22,6 +22,10 @@ pub data OnlySyncs (own : List ℕ → Type 0) (old : Disk) : Disk → Type 0 wh
   no_sync : OnlySyncs own old old
   one_sync : {name : List ℕ} {new : Disk} → own name → OnlySyncs own old new → OnlySyncs own old (did synced name new)
 
+-- The later disk came from the earlier one by syncs alone, of whatever files.
+abbrev pub JustSyncs : (old new : Disk) → Type 0
+JustSyncs old new = OnlySyncs (λ (name : List ℕ). Unit {0}) old new
+
 -- Files of which a crash on that disk may have left all that are not these.
 pub record LeftBefore (own : List ℕ → Type 0) (old : Disk) (image : List ℕ → List ℕ) : Type 0 where
   -- what it left

@@ -1,16 +1,15 @@
 -- In which call a volume in memory stops, and what becomes of its calls.
-use Rattle.std.specs.Prelude.{◌≡◌, ◌⊎◌, ℕ, ◌<◌, ◌≤◌, Bool, true, false, List, ◌==◌, if◌then◌else◌}
-use Rattle.pad_edge.specs.Count.{Rose}
+use Rattle.std.specs.Prelude.{ℕ, ◌-◌, ◌^◌, nat_le, nat_lt, Bool, true, false, ◌&&◌, List, ◌==◌, if◌then◌else◌}
 use Rattle.disk_volume.specs.Disk.{File}
 use Rattle.disk_volume.specs.Pick.{left}
 use Rattle.disk_volume.specs.declared.pick.Pick.{Pick}
 use Rattle.disk_volume.specs.declared.stop.Stop.{Stop}
 use Rattle.disk_volume.specs.declared.stop.Stop.TheVariants.{Unset, Set, Past}
 
--- the volume stops in the call of this number
+-- The volume stops in the call of this number. The count of calls stays at 2^64 - 1, so that is no call's number.
 abbrev pub stops_in : Stop → ℕ → Bool
 stops_in Unset call = false
-stops_in (Set number pick) call = number == call
+stops_in (Set number pick) call = number == call && nat_lt call (2 ^ 64 - 1)
 stops_in (Past pick) call = false
 
 -- it stopped before
@@ -22,7 +21,7 @@ has_stopped (Past pick) = true
 -- after the call of this number
 abbrev pub stop_after : Stop → ℕ → Stop
 stop_after Unset call = Unset
-stop_after (Set number pick) call = if number == call then Past pick else Set number pick
+stop_after (Set number pick) call = if number == call && nat_lt call (2 ^ 64 - 1) then Past pick else Set number pick
 stop_after (Past pick) call = Past pick
 
 -- what is left of a file: by the pick if the volume has stopped, and else as it reads
@@ -37,11 +36,9 @@ stop_set Unset call pick = Set call pick
 stop_set (Set number old) call pick = Set call pick
 stop_set (Past old) call pick = Past old
 
--- The stop, once the number of calls went from the first of these to the second. A stop that was set came in between if
--- the number of its call is one of these, and else it is still set.
-abbrev pub StopLater : (calls : ℕ) → Stop → (later_calls : ℕ) → (later : Stop) → Type 0
-StopLater calls Unset later_calls later = later ≡ Unset
-StopLater calls (Set number pick) later_calls later =
-    ((later ≡ Set number pick) × ((later_calls ≤ number) ⊎ (number < calls)))
-    ⊎ ((later ≡ Past pick) × (calls ≤ number) × Rose number later_calls)
-StopLater calls (Past pick) later_calls later = later ≡ Past pick
+-- The stop, once the number of calls went from the first of these to the second. One that was set came if its call was made
+-- in between, and else it is still set.
+abbrev pub stop_later : (calls : ℕ) → Stop → (later_calls : ℕ) → Stop
+stop_later calls Unset later_calls = Unset
+stop_later calls (Set number pick) later_calls = if nat_le calls number && nat_lt number later_calls then Past pick else Set number pick
+stop_later calls (Past pick) later_calls = Past pick

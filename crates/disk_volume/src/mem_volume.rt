@@ -12,7 +12,7 @@ ghost use Rattle.disk_volume.specs.Folder.{bytes_in};
 ghost use Rattle.disk_volume.specs.Lemmas.Follows.{follows_itself as itself, follows_on as goes_on};
 ghost use Rattle.disk_volume.specs.Lemmas.Sound.{reads_image, left_by_image};
 ghost use Rattle.disk_volume.specs.Pick.{torn};
-ghost use Rattle.disk_volume.specs.Stop.{stop_set, stop_after, left_by};
+ghost use Rattle.disk_volume.specs.Stop.{has_stopped, stop_set, stop_after, left_by};
 ghost use Rattle.disk_volume.specs.Inside.Change.{step_of};
 
 use crate::bytes::copy_from;
@@ -96,8 +96,20 @@ impl MemVolume {
         self.starved
     }
 
+    /// Whether it has stopped. It takes no memory.
+    pub fn has_stopped(&self) -> bool
+        ensures { result ≡ has_stopped self.now.stop }
+    {
+        match self.stop {
+            Stop::Past(_) => true,
+            _ => false,
+        }
+    }
+
     /// Simulates a crash in the call of this number, counted from 0 over the volume's life: that call and all later ones
-    /// fail, and `pick` says what the crash leaves. It has no effect once that call has been made or a crash has happened.
+    /// fail, and `pick` says what the crash leaves. It takes the place of a stop that was set before and has not come. Once
+    /// the volume has stopped it changes nothing. A stop that is set for a call that was made already, or for 2^64 - 1,
+    /// never comes.
     pub fn stop_at(&mut self, call: u64, pick: Pick)
         ensures { self.new ≡ record self.old { stop = stop_set self.old.stop call pick } }
     {
@@ -194,7 +206,7 @@ impl MemVolume {
         match self.stop {
             Stop::Past(_) => return Turn::Fails,
             Stop::Set(number, _) => {
-                if number == self.calls {
+                if number == self.calls && self.calls < u64::MAX {
                     return Turn::Stops;
                 }
             }
@@ -215,7 +227,7 @@ impl MemVolume {
     {
         let turn = self.turn();
         if let Stop::Set(number, pick) = self.stop {
-            if number == self.calls {
+            if number == self.calls && self.calls < u64::MAX {
                 self.stop = Stop::Past(pick);
             }
         }

@@ -1,11 +1,12 @@
 ghost use Rattle.std.specs.Prelude.{◌≡◌, ◌⊎◌, ◌↔◌, ◌+◌, ◌-◌, ◌*◌, ◌^◌, min, ◌<◌, ◌≤◌, ◌++◌, [], ◌∷◌, List, ℕ, Bool, true, false, length, take, Option, None, Some, IsTrue, IfOk, OnOk, OnErr, IfErr, IsErrOf, slice_get};
 ghost use Rattle.pad_edge.specs.Count.{Rose, HasCause};
 ghost use Rattle.disk_volume.specs.Disk.{Disk, IsImage, AtRest, file_at, reads};
-ghost use Rattle.disk_volume.specs.Moments.{EachNow, EachSince, Grew, LeftBefore, OnlySyncs};
+ghost use Rattle.disk_volume.specs.Moments.{EachNow, EachSince, Grew, LeftBefore, OnlySyncs, JustSyncs};
 ghost use Rattle.disk_volume.specs.Lemmas.Others.{others_leave as others_leave_since, syncs_rest};
 ghost use Rattle.disk_volume.specs.Lemmas.Since.{elsewhere};
 ghost use Rattle.log_format.specs.declared.damage.Damage.{Damage};
 ghost use Rattle.log_format.specs.declared.form.Form.{Form};
+ghost use Rattle.log_format.specs.Form.{most_entries_of, most_bytes_of};
 ghost use Rattle.log_format.specs.Frames.{size_of};
 ghost use Rattle.gated_log.specs.Ledger.{Within, LeavesOut, has_room};
 ghost use Rattle.gated_log.specs.Refused.{MayRefuse};
@@ -85,7 +86,7 @@ pub trait Ledger: Drop + Sized {
     /// `Damaged`. `Store` comes only where the volume's count of faults rose.
     fn restart<V: Volume>(alloc: Global, volume: &mut V, file: &str) -> Result<Self, LoadRefused>
         requires { V.tells → rests Form.Two file.now (V.disk volume.old) }
-        ensures made { IfOk result (λ log. (name log ≡ file.now) × (form_of log ≡ Form.Two) × IsTrue (live log)) }
+        ensures made { IfOk result (λ log. (name log ≡ file.now) × (form_of log ≡ Form.Two) × IsTrue (live log) × (count log ≡ 0)) }
 
         // A crash at any moment leaves the list, or the list with some payloads left out.
         ensures any_moment { V.tells → (payloads : List (List ℕ)) → opens_as Form.Two file.now (reads (V.disk volume.old)) payloads
@@ -106,6 +107,7 @@ pub trait Ledger: Drop + Sized {
     fn reserve_one(&mut self, alloc: Global) -> Result<(), AllocError>
         requires { IsTrue (live self.old) }
         ensures reserved { OnOk result (1 ≤ reserved self.new) }
+        ensures still_reserved { reserved self.old ≤ reserved self.new }
         ensures refused { OnErr result (reserved self.new ≡ reserved self.old) }
         ensures holds { (payloads : List (List ℕ)) (disk : Disk) → holds self.old payloads disk → holds self.new payloads disk }
         ensures name { name self.new ≡ name self.old }
@@ -121,6 +123,7 @@ pub trait Ledger: Drop + Sized {
     fn reserve(&mut self, alloc: Global, entries: usize) -> Result<(), AllocError>
         requires { IsTrue (live self.old) }
         ensures reserved { OnOk result (entries ≤ reserved self.new) }
+        ensures still_reserved { reserved self.old ≤ reserved self.new }
         ensures refused { OnErr result (reserved self.new ≡ reserved self.old) }
         ensures holds { (payloads : List (List ℕ)) (disk : Disk) → holds self.old payloads disk → holds self.new payloads disk }
         ensures name { name self.new ≡ name self.old }
@@ -289,6 +292,10 @@ pub trait Ledger: Drop + Sized {
     ghost rests_on: { (form : Form) (name : List ℕ) (old new : Disk) → rests form name old
         → ((file : List ℕ) → owns name file → file_at new file ≡ file_at old file) → rests form name new };
 
+    /// Nor do syncs, of these files or of others.
+    ghost rests_synced: { (form : Form) (name : List ℕ) (old new : Disk) → rests form name old → JustSyncs old new
+        → rests form name new };
+
     /// A crash leaves files that open as these read.
     ghost rests_now: { (form : Form) (name : List ℕ) (disk : Disk) (payloads : List (List ℕ)) → rests form name disk
         → opens_as form name (reads disk) payloads → EachNow disk (λ image. opens_as form name image payloads) };
@@ -313,6 +320,9 @@ pub trait Ledger: Drop + Sized {
     ghost holds_count: { (log : Self) (payloads : List (List ℕ)) (disk : Disk) → holds log payloads disk
         → count log ≡ length payloads };
 
+    /// And never has more than its form allows, whatever is known of its files.
+    ghost count_few: { (log : Self) → count log ≤ most_entries_of (form_of log) };
+
     /// Its room follows from its payloads.
     ghost holds_room: { (log : Self) (payloads : List (List ℕ)) (disk : Disk) (entries bytes : ℕ) → holds log payloads disk
         → room log entries bytes ≡ has_room (form_of log) payloads entries bytes };
@@ -324,6 +334,14 @@ pub trait Ledger: Drop + Sized {
     /// Files that are not damaged open as a list.
     ghost opens_undamaged: { (form : Form) (name : List ℕ) (files : List ℕ → List ℕ) → damage form name files ≡ None
         → (payloads : List (List ℕ)) × opens_as form name files payloads };
+
+    /// With no more entries than the form allows.
+    ghost undamaged_few: { (form : Form) (name : List ℕ) (files : List ℕ → List ℕ) (payloads : List (List ℕ)) → damage form name files ≡ None
+        → opens_as form name files payloads → length payloads ≤ most_entries_of form };
+
+    /// And no more bytes, as many as one file of that list has.
+    ghost undamaged_small: { (form : Form) (name : List ℕ) (files : List ℕ → List ℕ) (payloads : List (List ℕ)) → damage form name files ≡ None
+        → opens_as form name files payloads → 9 + 5 * length payloads + size_of payloads ≤ most_bytes_of form };
 
     /// Files open as one list at most.
     ghost opens_once: { (form : Form) (name : List ℕ) (files : List ℕ → List ℕ) (one other : List (List ℕ)) → opens_as form name files one

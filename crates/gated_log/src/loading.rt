@@ -1,4 +1,4 @@
-ghost use Rattle.std.specs.Prelude.{◌≡◌, ◌⊎◌, ◌+◌, ◌-◌, ◌*◌, ◌≤◌, ◌++◌, [], ◌∷◌, List, ℕ, length, take, Bool, false, MatchResult, MatchOption, IfOk, IfErr, IsErrOf, Some};
+ghost use Rattle.std.specs.Prelude.{◌≡◌, ◌⊎◌, ◌+◌, ◌-◌, ◌*◌, ◌≤◌, ◌++◌, [], ◌∷◌, List, ℕ, length, take, Bool, false, MatchResult, MatchOption, IfOk, OnOk, IfErr, IsErrOf, Some, vec_len};
 ghost use Rattle.std.specs.Str.{bytes_eq};
 ghost use Rattle.pad_edge.specs.Count.{Rose};
 ghost use Rattle.disk_volume.specs.Disk.{Disk, file_at, at_rest, reads, AtRest, IsImage};
@@ -40,9 +40,10 @@ fn found_short(form: Form, bytes: &[u8]) -> Found
 
 /// What is found in a longer file with this last gate, and this many entries in front of it.
 fn found_gate(form: Form, gate: Gate, count: u64) -> Result<Found, Damage>
-    ensures { (name bytes : List ℕ) (disk : Disk) (index : List Extent) → count ≡ length index → file_at disk name ≡ at_rest bytes
+    ensures found { (name bytes : List ℕ) (disk : Disk) (index : List Extent) → count ≡ length index → file_at disk name ≡ at_rest bytes
         → length bytes ≤ most_bytes_of form → take 8 bytes ≡ magic_of form → IsLast bytes (most_entries_of form + 1) index gate
         → MatchResult result (IsFound form name disk index) (λ damage. damage_of form bytes ≡ Some damage) }
+    ensures few { OnOk result (count ≤ most_entries_of form) }
 {
     if count > form.most_entries() {
         return Err(Damage::Many);
@@ -77,6 +78,7 @@ pub fn find_log<V: Volume>(
     requires fresh { index.old.items ≡ [] }
     requires told { V.tells → AtRest (V.disk volume.old) file.now × (size ≡ length (reads (V.disk volume.old) file.now)) }
     ensures found { V.tells → IfOk result (IsFound form file.now (V.disk volume.old) index.new.items) }
+    ensures few { OnOk result (vec_len index.new ≤ most_entries_of form) }
     ensures damaged { V.tells → IfErr result (MayRefuse (damage_of form (reads (V.disk volume.old) file.now))) }
     ensures disk { V.tells → V.disk volume.new ≡ V.disk volume.old }
     ensures clock { (calls : ℕ) × (V.clock volume.new ≤ V.clock volume.old + 1 + calls) × ((PIECE - 4) * calls ≤ size) }
@@ -109,6 +111,7 @@ fn find_at_rest<V: Volume>(
     requires fresh { index.old.items ≡ [] }
     requires told { V.tells → AtRest (V.disk volume.old) file.now }
     ensures found { V.tells → IfOk result (IsFound form file.now (V.disk volume.old) index.new.items) }
+    ensures few { OnOk result (vec_len index.new ≤ most_entries_of form) }
     ensures damaged { V.tells → IfErr result (MayRefuse (damage_of form (reads (V.disk volume.old) file.now))) }
     ensures disk { V.tells → V.disk volume.new ≡ V.disk volume.old }
     ensures clock { (size : ℕ) × (calls : ℕ) × (V.clock volume.new ≤ V.clock volume.old + 2 + calls) × ((PIECE - 4) * calls ≤ size)
@@ -136,6 +139,7 @@ pub fn find_settled<V: Volume>(
     requires buffer { length piece.old ≡ PIECE }
     requires fresh { index.old.items ≡ [] }
     ensures found { V.tells → IfOk result (IsFound form file.now (V.disk volume.new) index.new.items) }
+    ensures few { OnOk result (vec_len index.new ≤ most_entries_of form) }
     ensures damaged { V.tells → IfErr result (MayRefuse (damage_of form (reads (V.disk volume.old) file.now))) }
     ensures any_moment { V.tells → EachSince (V.disk volume.old) (V.disk volume.new) (IsImage (V.disk volume.old)) }
     ensures reads { V.tells → (name : List ℕ) → reads (V.disk volume.new) name ≡ reads (V.disk volume.old) name }

@@ -1,4 +1,4 @@
-ghost use Rattle.std.specs.Prelude.{◌≡◌, ◌+◌, ◌≤◌, [], ℕ, take, OnOk};
+ghost use Rattle.std.specs.Prelude.{◌≡◌, ◌+◌, ◌-◌, ◌^◌, min, ◌≤◌, [], ℕ, take, OnOk};
 ghost use Rattle.pad_edge.specs.Count.{HasCause};
 ghost use Rattle.disk_volume.specs.Disk.{file_at, at_rest, reads, AtRest};
 ghost use Rattle.disk_volume.specs.Moments.{Grew, EachSince};
@@ -14,6 +14,7 @@ pub fn empty_file<V: Volume>(volume: &mut V, file: &str) -> Result<(), Failed>
     ensures ok { V.tells → OnOk result (file_at (V.disk volume.new) file.now ≡ at_rest []) }
     ensures files { V.tells → Grew (λ name. name ≡ file.now) (V.disk volume.old) (V.disk volume.new) }
     ensures clock { V.clock volume.new ≤ V.clock volume.old + 2 }
+    ensures calls { OnOk result (V.clock volume.new ≡ min (V.clock volume.old + 2) (2 ^ 64 - 1)) }
     ensures follows { V.follows volume.old volume.new }
     ensures cause { HasCause (V.faults volume.old) (V.faults volume.new) result }
 {

@@ -1,6 +1,6 @@
 -- Lemmas on entries one after another, and on what a file of them opens as: what the proofs of the layers above cite.
 use Rattle.std.proofs.Common.{◌≡◌, ◌≢◌, ◌⊎◌, inl, inr, ℕ, zero, suc, ◌+◌, ◌-◌, ◌*◌, ◌≤◌, ◌<◌, ◌^◌, List, [], ◌∷◌, ◌++◌, length, take, drop, true, false, Some, None, if◌then◌else◌, bytes_eq, get_or, min, refl, ◌∙◌, sym, ap, subst, arith}
-use Rattle.std.proofs.lemmas.List.{append-nil, append_assoc, length-append, length-drop, length-take, drop-take, take-take, get_or-take, take_at, drop_at, nil_from_length}
+use Rattle.std.proofs.lemmas.List.{append-nil, append_assoc, length-append, length-drop, length-take, length-take-le, drop-take, take-take, get_or-take, take_at, drop_at, nil_from_length}
 use Rattle.std.proofs.lemmas.List.Sums.{sum_by-cons}
 use Rattle.std.proofs.lemmas.Bool.{cases_Bool, cases_lt, eqb-true, and_left, and_parts, ne_eqb, leb-true, le-leb, lt-leb, cond-true, cond-false}
 use Rattle.std.proofs.lemmas.Bool.Decides.{nat_tests}
@@ -375,4 +375,33 @@ opens-front magic bytes payloads size eight opened = elim (cases_lt 9 (length (t
             ∙ ap Some (ap (payloads_from (length (take size bytes))) rest ∙ front.1 ∙ ap (take front.0) parts.1),
       )
   | inr few ↦ (0, cond-true _ _ _ (le-leb (length (take size bytes)) 9 (omega arith)))
+]
+
+-- what opens from a gate on has no more bytes than stand there, the last gate apart
+payloads_from-size : (most : ℕ) (gate : List ℕ) → 1 ≤ length gate → 1 + 5 * length (payloads_from most gate) + size_of (payloads_from most gate) ≤ length gate
+payloads_from-size zero gate some = some
+payloads_from-size (suc most) gate some = elim (cases_Bool (is_entry gate)) [
+  | inl is ↦
+      let long : 6 + size_at gate ≤ length gate = length-entry gate is in
+      let next = drop (5 + size_at gate) gate in
+      let left : length next ≡ length gate - (5 + size_at gate) = length-drop (5 + size_at gate) gate in
+      let payload = take (size_at gate) (drop 5 gate) in
+      let size : length payload ≡ size_at gate = length-take-le (size_at gate) (drop 5 gate) (omega (arith, long, length-drop 5 gate)) in
+      let behind = payloads_from-size most next (omega (arith, long, left)) in
+      rw is (omega (arith, long, left, size, behind, sum_by-cons (λ (payload : List ℕ). length payload) payload (payloads_from most next)))
+  | inr shut ↦ rw (payloads_from-shut (suc most) gate shut) some
+]
+
+-- the file of a list has no more bytes than one that opens as it, or has the nine of a log without entries
+pub opens-size : (magic bytes : List ℕ) (payloads : List (List ℕ)) → opens magic bytes ≡ Some payloads
+    → 9 + 5 * length payloads + size_of payloads ≤ 9 + (length bytes - 9)
+opens-size magic bytes payloads opened = elim (cases_lt 9 (length bytes)) [
+  | inl long ↦
+      let parts = opens_parts magic bytes payloads long opened in
+      let size = payloads_from-size (length bytes) (drop 8 bytes) (omega (arith, long, length-drop 8 bytes)) in
+      omega (arith, long, length-drop 8 bytes, size, ap (λ (l : List (List ℕ)). length l) parts.1, ap size_of parts.1)
+  | inr few ↦
+      let none : Some [] ≡ Some payloads = sym (cond-true _ _ _ (le-leb (length bytes) 9 few)) ∙ opened in
+      let same : [] ≡ payloads = cc in
+      omega (arith, ap (λ (l : List (List ℕ)). length l) same, ap size_of same)
 ]

@@ -1,19 +1,19 @@
 -- Lemmas: what many calls of a volume in memory leave, from what one call leaves.
-use Rattle.std.proofs.Common.{◌≡◌, ◌∙◌, ◌⊎◌, ◌≤◌, ◌<◌, ℕ, ◌+◌, ◌-◌, ◌^◌, ◌==◌, ◌||◌, Bool, true, false, Result, Ok, Err, IsTrue, inl, inr, ⊎_elim, refl, sym, ap, subst, arith, if◌then◌else◌, min}
+use Rattle.std.proofs.Common.{◌≡◌, ◌∙◌, ◌⊎◌, ◌≤◌, ◌<◌, ℕ, ◌+◌, ◌-◌, ◌^◌, ◌==◌, ◌||◌, ◌&&◌, nat_le, nat_lt, Bool, true, false, Result, Ok, Err, IsTrue, inl, inr, ⊎_elim, refl, sym, ap, subst, arith, if◌then◌else◌, min}
 use Rattle.std.proofs.lemmas.Bool.Decides.{nat_tests}
-use Rattle.std.proofs.lemmas.Bool.{cases_lt}
+use Rattle.std.proofs.lemmas.Bool.{cond-true, cond-false}
 use Rattle.pad_edge.specs.Count.{Rose, counted}
 use Rattle.disk_volume.specs.Clock.{Ticked}
 use Rattle.disk_volume.specs.Memory.{Memory, FailsExactly, GoesOn, lists, is_listed, must_fail, MayFail, listed, stopped, starved, Follows}
-use Rattle.disk_volume.specs.Stop.{stops_in, has_stopped, stop_after, StopLater}
+use Rattle.disk_volume.specs.Stop.{stops_in, has_stopped, stop_after, stop_later}
 use Rattle.disk_volume.specs.declared.pick.Pick.{Pick}
 use Rattle.disk_volume.specs.declared.stop.Stop.{Stop}
 use Rattle.disk_volume.specs.declared.stop.Stop.TheVariants.{Unset, Set, Past}
 
 -- nothing happened
-pub stop_still : (calls : ℕ) (stop : Stop) → StopLater calls stop calls stop
+stop_still : (calls : ℕ) (stop : Stop) → stop ≡ stop_later calls stop calls
 stop_still calls Unset = refl
-stop_still calls (Set number pick) = inl (refl, ⊎_elim (λ (low : number < calls). inr low) (λ (high : calls ≤ number). inl high) (cases_lt number calls))
+stop_still calls (Set number pick) = let not_yet : (nat_le calls number && nat_lt number calls) ≡ false = grind (arith, nat_tests) in sym (cond-false _ _ _ not_yet)
 stop_still calls (Past pick) = refl
 
 pub follows_itself : (memory : Memory) → Follows memory memory
@@ -28,29 +28,24 @@ follows_itself memory = record {
 }
 
 -- a stop that has come stays
-past_later : (before now : ℕ) (old new : Stop) → StopLater before old now new → IsTrue (has_stopped old) → IsTrue (has_stopped new)
+past_later : (before now : ℕ) (old new : Stop) → new ≡ stop_later before old now → IsTrue (has_stopped old) → IsTrue (has_stopped new)
 past_later before now Unset new goes has = absurd (grind arith)
 past_later before now (Set number pick) new goes has = absurd (grind arith)
 past_later before now (Past pick) new goes has = subst (λ stop. IsTrue (has_stopped stop)) (sym goes) has
 
 -- first some calls, and then some more
-set_then : (before mid now number : ℕ) (pick : Pick) (new : Stop) → before ≤ mid → mid ≤ now → (mid ≤ number) ⊎ (number < before)
-    → StopLater mid (Set number pick) now new → StopLater before (Set number pick) now new
-set_then before mid now number pick new first second where_set (inl still) =
-    inl (
-      still.0,
-      ⊎_elim (λ (low : now ≤ number). inl low)
-          (λ (high : number < mid). ⊎_elim (λ (low : mid ≤ number). absurd (omega arith)) (λ (passed : number < before). inr passed) where_set) still.1,
-    )
-set_then before mid now number pick new first second where_set (inr came) = inr (came.0, omega (arith, came.1), came.2)
+came_then : (before mid now number : ℕ) (pick : Pick) → before ≤ mid → mid ≤ now → (came : Bool) → (nat_le before number && nat_lt number mid) ≡ came
+    → stop_later mid (if came then Past pick else Set number pick) now ≡ stop_later before (Set number pick) now
+came_then before mid now number pick first second true came =
+    let stays : (nat_le before number && nat_lt number now) ≡ true = grind (arith, nat_tests) in sym (cond-true _ _ _ stays)
+came_then before mid now number pick first second false not_yet =
+    let same : (nat_le mid number && nat_lt number now) ≡ (nat_le before number && nat_lt number now) = grind (arith, nat_tests) in
+    ap (λ (test : Bool). if test then Past pick else Set number pick) same
 
-stop_then : (before mid now : ℕ) (old between new : Stop) → before ≤ mid → mid ≤ now → StopLater before old mid between → StopLater mid between now new → StopLater before old now new
-stop_then before mid now Unset between new first second one two = subst (λ stop. StopLater mid stop now new) one two
-stop_then before mid now (Past pick) between new first second one two = subst (λ stop. StopLater mid stop now new) one two
-stop_then before mid now (Set number pick) between new first second (inl still) two =
-    set_then before mid now number pick new first second still.1 (subst (λ stop. StopLater mid stop now new) still.0 two)
-stop_then before mid now (Set number pick) between new first second (inr came) two =
-    inr (subst (λ stop. StopLater mid stop now new) came.0 two, came.1, omega (arith, came.2))
+stop_then : (before mid now : ℕ) (old : Stop) → before ≤ mid → mid ≤ now → stop_later mid (stop_later before old mid) now ≡ stop_later before old now
+stop_then before mid now Unset first second = refl
+stop_then before mid now (Set number pick) first second = came_then before mid now number pick first second (nat_le before number && nat_lt number mid) refl
+stop_then before mid now (Past pick) first second = refl
 
 fail_before : (old mid new : Memory) → Follows mid new → MayFail old mid → MayFail old new
 fail_before old mid new second (listed number is low reached) = listed number is low (omega (arith, reached, second.calls))
@@ -70,28 +65,23 @@ follows_on old mid new one two = record {
   calls = omega (arith, one.calls, two.calls);
   refused = omega (arith, one.refused, two.refused);
   later = omega (arith, one.later, two.later);
-  stop = stop_then old.calls mid.calls new.calls old.stop mid.stop new.stop one.calls two.calls one.stop two.stop;
+  stop = two.stop ∙ ap (λ stop. stop_later mid.calls stop new.calls) one.stop ∙ stop_then old.calls mid.calls new.calls old.stop one.calls two.calls;
   faults = ⊎_elim (λ same. ⊎_elim (λ more. inl (more ∙ same)) (λ why. inr (fail_after old mid new one why)) two.faults)
       (λ why. inr (fail_before old mid new two why)) one.faults;
 }
 
 -- one call
-stop_one : (before now : ℕ) (old : Stop) → now ≡ counted before → StopLater before old now (stop_after old before)
+stop_one : (before now : ℕ) (old : Stop) → now ≡ counted before → stop_after old before ≡ stop_later before old now
 stop_one before now Unset ticked = refl
-stop_one before now (Set number pick) ticked = choose (number == before) refl
-  where
-    choose : (test : Bool) → (number == before) ≡ test → StopLater before (Set number pick) now (if test then Past pick else Set number pick)
-    choose true same = inr (refl, grind (arith, nat_tests), grind (arith, nat_tests))
-    choose false other = inl (refl, ⊎_elim (λ (low : number < before). inr low) (λ (high : before ≤ number). inl (grind (arith, nat_tests))) (cases_lt number before))
+stop_one before now (Set number pick) ticked =
+    let same : (number == before && nat_lt before (2 ^ 64 - 1)) ≡ (nat_le before number && nat_lt number now) = grind (arith, nat_tests) in
+    ap (λ (test : Bool). if test then Past pick else Set number pick) same
 stop_one before now (Past pick) ticked = refl
 
 -- why a call failed
 failed_one : (old new : Memory) → new.calls ≡ counted old.calls → new.stop ≡ stop_after old.stop old.calls → IsTrue (must_fail old) → MayFail old new
 failed_one old new ticked stop must = choose (is_listed old) refl
   where
-    choose_set : (now : Stop) → new.stop ≡ now → (number : ℕ) (pick : Pick) → now ≡ (if number == old.calls then Past pick else Set number pick) → IsTrue (number == old.calls) → MayFail old new
-    choose_set now same number pick is here = stopped (grind (arith, nat_tests))
-
     choose : (test : Bool) → is_listed old ≡ test → MayFail old new
     choose true is = listed old.calls (grind arith) (omega arith) (omega (arith, ticked))
     choose false is = stopped (grind (arith, nat_tests))
@@ -103,7 +93,7 @@ follows_call (Ok done) old new ticked exact goes = record {
   calls = goes.calls;
   refused = goes.refused;
   later = goes.later;
-  stop = subst (StopLater old.calls old.stop new.calls) (sym goes.stop) (stop_one old.calls new.calls old.stop ticked);
+  stop = goes.stop ∙ stop_one old.calls new.calls old.stop ticked;
   faults = inl goes.faults;
 }
 follows_call (Err failure) old new ticked exact goes = record {
@@ -112,6 +102,6 @@ follows_call (Err failure) old new ticked exact goes = record {
   calls = goes.calls;
   refused = goes.refused;
   later = goes.later;
-  stop = subst (StopLater old.calls old.stop new.calls) (sym goes.stop) (stop_one old.calls new.calls old.stop ticked);
+  stop = goes.stop ∙ stop_one old.calls new.calls old.stop ticked;
   faults = inr (⊎_elim (λ must. failed_one old new ticked goes.stop must) (λ (rose : Ticked old.starved new.starved). starved (omega (arith, rose))) (exact.failed refl));
 }

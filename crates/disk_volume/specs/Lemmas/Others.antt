@@ -2,7 +2,7 @@
 use Rattle.std.proofs.Common.{◌≡◌, ◌∙◌, Bool, true, false, List, ℕ, inl, inr, refl, sym, ap, subst, bytes_eq, if◌then◌else◌}
 use Rattle.std.proofs.lemmas.Slice.Eq.{bytes_eq-Decides}
 use Rattle.disk_volume.specs.Disk.{Act, Disk, did, File, at_rest, after, synced, file_at, reads, MayLeave, IsImage, AtRest}
-use Rattle.disk_volume.specs.Moments.{Grew, still, more, OnlySyncs, no_sync, one_sync, LeftBefore, EachSince}
+use Rattle.disk_volume.specs.Moments.{Grew, still, more, OnlySyncs, JustSyncs, no_sync, one_sync, LeftBefore, EachSince}
 use Rattle.disk_volume.specs.Lemmas.Since.{now_alone}
 
 -- some of these acts was on this file
@@ -68,3 +68,8 @@ pub syncs_rest : {own : List ℕ → Type 0} {old : Disk} (new : Disk) (name : L
 syncs_rest new name no_sync rests = refl
 syncs_rest {own} {old} new name (one_sync {name = file} {new = mid} mine syncs) rests =
     one_rests (file_at old name) (file_at mid name) (bytes_eq file name) (syncs_rest mid name syncs rests) rests
+
+-- syncs of these files are syncs
+pub syncs_any : {own : List ℕ → Type 0} {old : Disk} (new : Disk) → OnlySyncs own old new → JustSyncs old new
+syncs_any new no_sync = no_sync
+syncs_any new (one_sync {name = file} {new = mid} mine syncs) = one_sync (tt {0}) (syncs_any mid syncs)

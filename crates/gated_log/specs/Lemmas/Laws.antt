@@ -1,18 +1,20 @@
 -- The laws of a ledger, of a log in one file.
-use Rattle.std.proofs.Common.{◌≡◌, inl, inr, ℕ, ◌+◌, ◌*◌, Bool, true, false, List, [], ◌∷◌, length, take, Option, Some, None, refl, ◌∙◌, sym, ap, subst, arith}
-use Rattle.std.proofs.lemmas.Bool.{cases_Bool, cond-true, cond-false, le-leb, and_parts, eqb-true, not-true}
+use Rattle.std.proofs.Common.{◌≡◌, inl, inr, ℕ, ◌+◌, ◌*◌, ◌≤◌, Bool, true, false, List, [], ◌∷◌, length, take, Option, Some, None, refl, ◌∙◌, sym, ap, subst, arith}
+use Rattle.std.proofs.lemmas.Bool.{cases_Bool, cond-true, cond-false, le-leb, leb-true, and_parts, eqb-true, not-true}
 use Rattle.std.proofs.Math.Seq.{take-length}
 use Rattle.std.specs.Prelude.{nat_le, string_bytes, vec_len}
 use Rattle.disk_volume.specs.Disk.{Disk, File, file_at, at_rest, reads, IsImage, AtRest, MayLeave}
-use Rattle.disk_volume.specs.Moments.{EachNow}
+use Rattle.disk_volume.specs.Moments.{EachNow, JustSyncs}
 use Rattle.disk_volume.specs.Lemmas.Images.{rest_leaves}
-use Rattle.log_format.specs.declared.damage.Damage.TheVariants.{Long}
+use Rattle.disk_volume.specs.Lemmas.Others.{syncs_rest}
+use Rattle.log_format.specs.declared.damage.Damage.TheVariants.{Long, Many}
 use Rattle.log_format.specs.declared.form.Form.{Form}
+use Rattle.log_format.specs.declared.form.Form.TheVariants.{One, Two}
 use Rattle.log_format.specs.Damages.{damage_opened, damage_of}
 use Rattle.log_format.specs.File.{opens, doubt_of}
-use Rattle.log_format.specs.Form.{magic_of, most_bytes_of}
+use Rattle.log_format.specs.Form.{magic_of, most_entries_of, most_bytes_of}
 use Rattle.log_format.specs.Frames.{size_of}
-use Rattle.log_format.proofs.CallerLemmas.{length-entries, length-magic, opens-shut, doubt_of-closed}
+use Rattle.log_format.proofs.CallerLemmas.{length-entries, length-magic, opens-size, opens-shut, doubt_of-closed}
 use Rattle.gated_log.specs.declared.extent.Extent.{Extent}
 use Rattle.gated_log.specs.declared.log.Log.{Log}
 use Rattle.gated_log.specs.Extents.{extents}
@@ -41,6 +43,10 @@ holds_rests log payloads disk stands = file_rests log.form log.short (string_byt
 -- nor is it while its file stays
 pub rests_on : (name : List ℕ) (old new : Disk) → AtRest old name → file_at new name ≡ file_at old name → AtRest new name
 rests_on name old new rests same = let P : File → Type 0 = λ f. f ≡ at_rest f.now in subst P (sym same) rests
+
+-- nor while there are only syncs
+pub rests_synced : (name : List ℕ) (old new : Disk) → AtRest old name → JustSyncs old new → AtRest new name
+rests_synced name old new rests syncs = rests_on name old new rests (syncs_rest new name syncs rests)
 
 -- of a file on which nothing is pending a crash leaves what a read gives
 pub rest_alone : (name : List ℕ) (disk : Disk) (image : List ℕ → List ℕ) → AtRest disk name → IsImage disk image → image name ≡ reads disk name
@@ -108,11 +114,35 @@ opened : (form : Form) (bytes : List ℕ) (found : Option (List (List ℕ))) →
 opened form bytes None none = cc
 opened form bytes (Some payloads) none = (payloads, refl)
 
-pub opens_undamaged : (form : Form) (bytes : List ℕ) → damage_of form bytes ≡ None → (payloads : List (List ℕ)) × (opens (magic_of form) bytes ≡ Some payloads)
-opens_undamaged form bytes none = elim (cases_Bool (nat_le (length bytes) (most_bytes_of form))) [
-  | inl short ↦ opened form bytes (opens (magic_of form) bytes) (sym (cond-true _ _ _ short) ∙ none)
+-- a file that is not damaged is not too long, and its damage is by what it opens as
+not_long : (form : Form) (bytes : List ℕ) → damage_of form bytes ≡ None → (length bytes ≤ most_bytes_of form) × (damage_opened form bytes (opens (magic_of form) bytes) ≡ None)
+not_long form bytes none = elim (cases_Bool (nat_le (length bytes) (most_bytes_of form))) [
+  | inl short ↦ (leb-true _ _ short, sym (cond-true _ _ _ short) ∙ none)
   | inr long ↦ let damaged : Some (Long (length bytes)) ≡ None = sym (cond-false _ _ _ long) ∙ none in absurd (cc)
 ]
+
+pub opens_undamaged : (form : Form) (bytes : List ℕ) → damage_of form bytes ≡ None → (payloads : List (List ℕ)) × (opens (magic_of form) bytes ≡ Some payloads)
+opens_undamaged form bytes none = opened form bytes (opens (magic_of form) bytes) (not_long form bytes none).1
+
+-- and its list is within the limits
+few_opened : (form : Form) (bytes : List ℕ) (payloads : List (List ℕ)) → damage_opened form bytes (Some payloads) ≡ None → length payloads ≤ most_entries_of form
+few_opened form bytes payloads none = elim (cases_Bool (nat_le (length payloads) (most_entries_of form))) [
+  | inl few ↦ leb-true _ _ few
+  | inr many ↦ let damaged : Some Many ≡ None = sym (cond-false _ _ _ many) ∙ none in absurd (cc)
+]
+
+pub undamaged_few : (form : Form) (bytes : List ℕ) (payloads : List (List ℕ)) → damage_of form bytes ≡ None → opens (magic_of form) bytes ≡ Some payloads
+    → length payloads ≤ most_entries_of form
+undamaged_few form bytes payloads none opened = few_opened form bytes payloads (ap (damage_opened form bytes) (sym opened) ∙ (not_long form bytes none).1)
+
+-- a file may have nine bytes
+nine_small : (form : Form) → 9 ≤ most_bytes_of form
+nine_small One = omega arith
+nine_small Two = omega arith
+
+pub undamaged_small : (form : Form) (bytes : List ℕ) (payloads : List (List ℕ)) → damage_of form bytes ≡ None → opens (magic_of form) bytes ≡ Some payloads
+    → 9 + 5 * length payloads + size_of payloads ≤ most_bytes_of form
+undamaged_small form bytes payloads none opened = omega (arith, opens-size (magic_of form) bytes payloads opened, (not_long form bytes none).0, nine_small form)
 
 -- it opens as one list at most
 pub same_payloads : (one other : List (List ℕ)) → Some one ≡ Some other → one ≡ other

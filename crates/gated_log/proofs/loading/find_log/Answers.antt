@@ -27,7 +27,7 @@ returns-clause-found g c = λ told.
     let Q : ℕ → Type 0 = λ most. P bytes (most + 1) in
     let ended = subst Q c.most_entries.ensures (subst (λ (file : List ℕ). P file (c.most_entries.result + 1)) same last) in
     let head = sym (head_read c.read_piece.new.piece bytes c.in_ok-count.count c.args.size came.1 (omega (arith, c.if-count-le9.false)) size) ∙ c.in_default.ensures in
-    c.in_ok-found_gate.ensures c.args.file.now bytes (g.V.Volume.disk c.args.volume.now) c.find_gate.new.index.items (c.len.ensures ∙ c.find_gate.new.index.ok.0) (c.requires.told told).0
+    c.in_ok-found_gate.ensures.found c.args.file.now bytes (g.V.Volume.disk c.args.volume.now) c.find_gate.new.index.items (c.len.ensures ∙ c.find_gate.new.index.ok.0) (c.requires.told told).0
     (omega (arith, c.requires.small, size)) head ended
 
 pub returns-in_err-found_gate-clause-damaged : goal.returns-in_err-found_gate-clause-damaged
@@ -42,5 +42,5 @@ returns-in_err-found_gate-clause-damaged g c = let p = err_from_is_err_and c.fro
     let Q : ℕ → Type 0 = λ most. P bytes (most + 1) in
     let ended = subst Q c.most_entries.ensures (subst (λ (file : List ℕ). P file (c.most_entries.result + 1)) same last) in
     let head = sym (head_read c.read_piece.new.piece bytes c.in_ok-count.count c.args.size came.1 (omega (arith, c.if-count-le9.false)) size) ∙ c.in_default.ensures in
-    c.in_err-found_gate.ensures c.args.file.now bytes (g.V.Volume.disk c.args.volume.now) c.find_gate.new.index.items (c.len.ensures ∙ c.find_gate.new.index.ok.0) (c.requires.told told).0
+    c.in_err-found_gate.ensures.found c.args.file.now bytes (g.V.Volume.disk c.args.volume.now) c.find_gate.new.index.items (c.len.ensures ∙ c.find_gate.new.index.ok.0) (c.requires.told told).0
     (omega (arith, c.requires.small, size)) head ended)

@@ -5,7 +5,7 @@ use Rattle.log_format.specs.Frames.{size_of}
 use Rattle.log_format.proofs.CallerLemmas.{frame_group}
 use Rattle.gated_log.specs.Log.{fits}
 use Rattle.gated_log.specs.Lemmas.Laws.{holds_now}
-use Rattle.gated_log.proofs.log.LogLedger.append.Goals as goal
+use Rattle.gated_log.proofs.log.calls.LogLedger.append.Goals as goal
 
 pub returns-then-not-room-clause-any_moment : goal.returns-then-not-room-clause-any_moment
 returns-then-not-room-clause-any_moment g c = λ told payloads stands image left.

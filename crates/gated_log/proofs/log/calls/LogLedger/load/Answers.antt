@@ -1,7 +1,7 @@
 use Rattle.std.proofs.Common.{refl, arith}
 use Rattle.disk_volume.specs.Moments.{still, no_sync}
 use Rattle.gated_log.proofs.Opening.{found_stands, found_primed}
-use Rattle.gated_log.proofs.log.LogLedger.load.Goals as goal
+use Rattle.gated_log.proofs.log.calls.LogLedger.load.Goals as goal
 
 pub returns-in_err-name-clause-files : goal.returns-in_err-name-clause-files
 returns-in_err-name-clause-files g c = λ told. still

@@ -3,7 +3,7 @@ use Rattle.std.specs.Prelude.{string_bytes}
 use Rattle.disk_volume.specs.Moments.{Grew}
 use Rattle.gated_log.specs.Lemmas.Laws.{file_now}
 use Rattle.gated_log.specs.Log.{HoldsFile}
-use Rattle.gated_log.proofs.log.LogLedger.prime.Goals as goal
+use Rattle.gated_log.proofs.log.calls.LogLedger.prime.Goals as goal
 
 pub returns-in-Ok-clause-on_disk : goal.returns-in-Ok-clause-on_disk
 returns-in-Ok-clause-on_disk g c = λ told payloads stands.

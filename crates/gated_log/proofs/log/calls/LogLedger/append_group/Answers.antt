@@ -2,7 +2,7 @@ use Rattle.std.proofs.Common.{inl}
 use Rattle.disk_volume.specs.Moments.{still}
 use Rattle.disk_volume.specs.Lemmas.Since.{now_alone}
 use Rattle.gated_log.specs.Lemmas.Laws.{holds_now}
-use Rattle.gated_log.proofs.log.LogLedger.append_group.Goals as goal
+use Rattle.gated_log.proofs.log.calls.LogLedger.append_group.Goals as goal
 
 pub returns-then-not-room-clause-any_moment : goal.returns-then-not-room-clause-any_moment
 returns-then-not-room-clause-any_moment g c = λ told payloads stands image left.

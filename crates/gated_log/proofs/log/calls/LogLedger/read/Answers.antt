@@ -2,7 +2,7 @@ use Rattle.std.proofs.Common.{List, ℕ, subst, sym}
 use Rattle.std.specs.Prelude.{slice_get}
 use Rattle.disk_volume.specs.Disk.{reads}
 use Rattle.gated_log.proofs.Records.{IsPayloadAt, payload_read, log_payload_at}
-use Rattle.gated_log.proofs.log.LogLedger.read.Goals as goal
+use Rattle.gated_log.proofs.log.calls.LogLedger.read.Goals as goal
 
 pub returns-clause-payload : goal.returns-clause-payload
 returns-clause-payload g c = λ told payloads stands.

@@ -4,7 +4,7 @@ use Rattle.disk_volume.specs.Moments.{still}
 use Rattle.disk_volume.specs.Lemmas.Since.{now_alone}
 use Rattle.log_format.specs.declared.form.TheConstants.{MAGIC_TWO}
 use Rattle.gated_log.proofs.Cuts.{front_rest, front_opens}
-use Rattle.gated_log.proofs.log.LogLedger.restart.Goals as goal
+use Rattle.gated_log.proofs.log.calls.LogLedger.restart.Goals as goal
 
 pub returns-in_err-name-clause-any_moment : goal.returns-in_err-name-clause-any_moment
 returns-in_err-name-clause-any_moment g c = λ told payloads opened image left.
