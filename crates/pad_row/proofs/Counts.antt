@@ -3,15 +3,16 @@ use Rattle.std.proofs.Common.{◌≡◌, ℕ, zero, suc, ◌+◌, ◌-◌, ◌<�
 use Rattle.std.specs.Prelude.{Option, Some, None, filter, Contains}
 use Rattle.std.specs.List.{range_with_len}
 use Rattle.std.proofs.lemmas.List.Sums.{sum_by-cons}
-use Rattle.std.proofs.lemmas.List.{append-nil, take-append-drop}
+use Rattle.std.proofs.lemmas.List.{append-nil, take-append-drop, take_all, length-drop, length-append}
 use Rattle.pad_patch.specs.declared.operation.Operation.{Operation}
-use Rattle.pad_patch.specs.Piece.{end_of, pieces_from, patched_pieces}
-use Rattle.pad_patch.proofs.CallerLemmas.{part, range-drop, somes_of, somes-append, somes-some, IsLaid}
+use Rattle.pad_patch.specs.Piece.{end_of, pieces_from, patched_pieces, insertions}
+use Rattle.pad_patch.specs.Removed.{removed_by}
+use Rattle.pad_patch.proofs.CallerLemmas.{part, range-drop, somes_of, somes-append, somes-some, IsLaid, laid}
 use Rattle.pad_stroke.specs.declared.mark.Mark.{Mark}
 use Rattle.pad_stroke.specs.Row.{Row}
 use Rattle.pad_stroke.specs.Strip.{same_mark}
 use Rattle.pad_stroke.proofs.CallerLemmas.{same_true, same_self}
-use Rattle.pad_row.specs.Laws.{how_often}
+use Rattle.pad_row.specs.Laws.{how_often, RowCounts}
 
 pub how_often-cons : (mark x : Mark) (xs : List Mark) → how_often mark (x ∷ xs) ≡ cond (same_mark x mark) 1 0 + how_often mark xs
 how_often-cons mark x xs = sum_by-cons (λ other. cond (same_mark other mark) 1 0) x xs
@@ -70,6 +71,39 @@ pub row_often : (mark : Mark) (row entries : Row) (size : ℕ) (operations : Lis
     → in_row mark (patched_pieces row entries (pieces_from 0 size operations)) ≤ in_row mark row + in_row mark entries
 row_often mark row entries size operations laid_out = copied_often mark row entries 0 size operations laid_out
 
+-- exactly: with what is removed of the row
+all_of : (mark : Mark) (row entries : Row) (place size : ℕ) (operations : List Operation) → IsLaid place size operations → size ≡ length row → length entries ≡ length (insertions operations)
+    → in_row mark (patched_pieces row entries (pieces_from place size operations)) + in_row mark (removed_by operations row) ≡ in_row mark (drop place row) + in_row mark entries
+all_of mark row [] place size [] laid_out long counted =
+    let kept = part place size row in
+    omega (arith, ap (in_row mark) (append-nil kept), ap (in_row mark) (take_all (size - place) (drop place row) (omega (arith, long, length-drop place row))))
+all_of mark row (entry ∷ entries) place size [] laid_out long counted = absurd (omega (arith, counted))
+all_of mark row entries place size (operation ∷ operations) (starts, inside, rest) long counted =
+    let count = length operation.insert in
+    let end = end_of operation in
+    let kept = part place operation.offset row in
+    let news = take count entries in
+    let left = drop count entries in
+    let later = patched_pieces row left (pieces_from end size operations) in
+    let order : operation.offset ≤ end = omega arith in
+    let out = part operation.offset end row in
+    omega (
+      arith,
+      in_row-append mark kept (news ++ later),
+      in_row-append mark news later,
+      all_of mark row left end size operations rest long (omega (arith, counted, length-append operation.insert (insertions operations), length-drop count entries)),
+      in_row-append mark out (removed_by operations row),
+      in_row-append mark kept (drop operation.offset row),
+      ap (in_row mark) (range-drop place operation.offset row starts),
+      in_row-append mark out (drop end row),
+      ap (in_row mark) (range-drop operation.offset end row order),
+      in_row-append mark news left,
+      ap (in_row mark) (take-append-drop count entries),
+    )
+
+pub row_counts : RowCounts
+row_counts patch entries row mark ordered inside counted = all_of mark row entries 0 (length row) patch.ops (laid patch (length row) ordered inside) refl counted
+
 pub in_row-some : (mark : Mark) (marks : List Mark) → in_row mark (map Some marks) ≡ how_often mark marks
 in_row-some mark marks = ap (how_often mark) (somes-some marks)
 
@@ -107,3 +141,13 @@ none_by x xs mark none rest false other = omega (arith, rest)
 pub none_counted : (marks : List Mark) (mark : Mark) → ¬ (Contains marks mark) → how_often mark marks ≡ 0
 none_counted [] mark none = refl
 none_counted (x ∷ xs) mark none = how_often-cons mark x xs ∙ none_by x xs mark none (none_counted xs mark (λ contains. none (later_one x xs mark contains))) (same_mark x mark) refl
+
+-- a mark that stands in a list stands there once at least
+pub counted_there : (marks : List Mark) (mark : Mark) → Contains marks mark → 1 ≤ how_often mark marks
+counted_there [] mark contains = absurd (none_in mark contains)
+counted_there (x ∷ xs) mark contains = elim (head_or_tail x xs mark contains) [
+  | inl here ↦
+      let same : same_mark x mark ≡ true = ap (λ m. same_mark m mark) here ∙ same_self mark in
+      omega (arith, how_often-cons mark x xs ∙ ap (λ t. cond t 1 0 + how_often mark xs) same)
+  | inr later ↦ omega (arith, how_often-cons mark x xs, counted_there xs mark later)
+]

@@ -6,3 +6,5 @@ pub mod TypedUnits
 pub mod PairRows
 pub mod PairWorks
 pub mod Strips
+pub mod EditSteps
+pub mod Backs

@@ -19,34 +19,29 @@ use Rattle.pad_merge.specs.declared.origin.Origin.TheVariants.{First, Second}
 use Rattle.pad_merge.specs.Source.{Source, kept_at, new_unit, kept_from, sources_of}
 use Rattle.pad_merge.specs.Origin.{origins, named_unit, named_in}
 use Rattle.pad_merge.specs.Merge.{merged, CanMerge, CutsNewPair, CutsInserted}
-use Rattle.pad_merge.proofs.CallerLemmas.{CanMerge-CanApply, named_all, length-origins, patched-merged, texts-merged}
+use Rattle.pad_merge.proofs.CallerLemmas.{named_all, length-origins, patched-merged, texts-merged}
 use Rattle.pad_stroke.specs.declared.mark.Mark.{Mark}
 use Rattle.pad_stroke.specs.Mark.{marks_of}
 use Rattle.pad_stroke.specs.Work.{Marked}
 use Rattle.pad_stroke.specs.InTurn.{no_mark, mark_from, in_turn}
-use Rattle.pad_stroke.proofs.CallerLemmas.{in_turn_marks, in_turn_patch, in_turn_counted}
-use Rattle.pad_row.specs.Laws.{IsCounted, InTurnOn}
-use Rattle.pad_row.specs.Pairs.{IsNextMark, IsPaired, IsWhole, TypedPaired, TurnWhole}
+use Rattle.pad_stroke.specs.Through.{carried}
+use Rattle.pad_stroke.proofs.CallerLemmas.{carried_inserted, carried_marks}
+use Rattle.pad_row.specs.Laws.{IsCounted}
+use Rattle.pad_row.specs.Pairs.{IsNextMark, IsPaired, IsWhole, TypedPaired, TurnWhole, TurnUnits, CarriedUnits, with_marks}
 use Rattle.pad_row.proofs.Units.{GoUp, go_up}
 use Rattle.pad_row.proofs.PairRows.{Unit2, Units, awaited, Goes, ending, Good, IsUncut, GoodParts, AreUncut, good_copied, good_none}
 
--- units with their marks
-abbrev pub marked : List ℕ → List Mark → Units
-marked [] marks = []
-marked (unit ∷ units) [] = []
-marked (unit ∷ units) (mark ∷ marks) = Some (unit, mark) ∷ marked units marks
-
-pub length-marked : (units : List ℕ) (marks : List Mark) → length units ≤ length marks → length (marked units marks) ≡ length units
+pub length-marked : (units : List ℕ) (marks : List Mark) → length units ≤ length marks → length (with_marks units marks) ≡ length units
 length-marked [] marks enough = refl
 length-marked (unit ∷ units) [] enough = absurd (omega (arith, enough))
 length-marked (unit ∷ units) (mark ∷ marks) enough = ap suc (length-marked units marks (omega (arith, enough)))
 
-take-marked : (xs ys : List ℕ) (marks : List Mark) → length xs ≤ length marks → take (length xs) (marked (xs ++ ys) marks) ≡ marked xs marks
+take-marked : (xs ys : List ℕ) (marks : List Mark) → length xs ≤ length marks → take (length xs) (with_marks (xs ++ ys) marks) ≡ with_marks xs marks
 take-marked [] ys marks enough = refl
 take-marked (x ∷ xs) ys [] enough = absurd (omega (arith, enough))
 take-marked (x ∷ xs) ys (mark ∷ marks) enough = ap (λ us. Some (x, mark) ∷ us) (take-marked xs ys marks (omega (arith, enough)))
 
-drop-marked : (xs ys : List ℕ) (marks : List Mark) → length xs ≤ length marks → drop (length xs) (marked (xs ++ ys) marks) ≡ marked ys (drop (length xs) marks)
+drop-marked : (xs ys : List ℕ) (marks : List Mark) → length xs ≤ length marks → drop (length xs) (with_marks (xs ++ ys) marks) ≡ with_marks ys (drop (length xs) marks)
 drop-marked [] ys marks enough = refl
 drop-marked (x ∷ xs) ys [] enough = absurd (omega (arith, enough))
 drop-marked (x ∷ xs) ys (mark ∷ marks) enough = drop-marked xs ys marks (omega (arith, enough))
@@ -75,23 +70,23 @@ next_marks : (unit low : ℕ) (units : List ℕ) (mark own : Mark) (marks : List
 next_marks unit low units mark own marks paired high is_low = paired 0 unit low mark own refl refl high is_low refl refl
 
 good_by : (unit : ℕ) (units : List ℕ) (mark : Mark) (marks : List Mark) (test : Bool) → is_high_surrogate unit ≡ test → is_low_surrogate unit ≡ false → GoUp test units → length units ≤ length marks → IsPaired (unit ∷ units) (mark ∷ marks)
-    → ((us : List ℕ) (ms : List Mark) → GoUp false us → length us ≤ length ms → IsPaired us ms → length us ≤ length units → Good (marked us ms)) → Good (marked (unit ∷ units) (mark ∷ marks))
+    → ((us : List ℕ) (ms : List Mark) → GoUp false us → length us ≤ length ms → IsPaired us ms → length us ≤ length units → Good (with_marks us ms)) → Good (with_marks (unit ∷ units) (mark ∷ marks))
 good_by unit units mark marks false high low up enough paired rest =
     let shown : awaited unit mark ≡ None = ap (λ t. cond t (Some mark) None) high in
     let behind = rest units marks up enough (paired_tail unit units mark marks paired) (omega arith) in
-    ((low, subst (λ s. Goes s (marked units marks)) (sym shown) behind.0), ap (λ s. ending s (marked units marks)) shown ∙ behind.1)
+    ((low, subst (λ s. Goes s (with_marks units marks)) (sym shown) behind.0), ap (λ s. ending s (with_marks units marks)) shown ∙ behind.1)
 good_by unit [] mark marks true high low up enough paired rest = absurd up
 good_by unit (next ∷ units) mark [] true high low up enough paired rest = absurd (omega (arith, enough))
 good_by unit (next ∷ units) mark (own ∷ marks) true high low up enough paired rest =
     let shown : awaited unit mark ≡ Some mark = ap (λ t. cond t (Some mark) None) high in
-    let row = marked (next ∷ units) (own ∷ marks) in
+    let row = with_marks (next ∷ units) (own ∷ marks) in
     let behind = rest units marks up.2 (omega (arith, enough)) (paired_tail next units own marks (paired_tail unit (next ∷ units) mark (own ∷ marks) paired)) (omega arith) in (
       (low, subst (λ s. Goes s row) (sym shown) (up.0, next_marks unit next units mark own marks paired high up.0, behind.0)),
       ap (λ s. ending s row) shown ∙ behind.1,
     )
 
 -- by the number of units
-good_few : (most : ℕ) (units : List ℕ) (marks : List Mark) → length units ≤ most → GoUp false units → length units ≤ length marks → IsPaired units marks → Good (marked units marks)
+good_few : (most : ℕ) (units : List ℕ) (marks : List Mark) → length units ≤ most → GoUp false units → length units ≤ length marks → IsPaired units marks → Good (with_marks units marks)
 good_few most [] marks few up enough paired = (tt, refl)
 good_few most (unit ∷ units) [] few up enough paired = absurd (omega (arith, enough))
 good_few zero (unit ∷ units) (mark ∷ marks) few up enough paired = absurd (omega (arith, few))
@@ -99,14 +94,14 @@ good_few (suc most) (unit ∷ units) (mark ∷ marks) few up enough paired =
     good_by unit units mark marks (is_high_surrogate unit) refl up.0 up.1 (omega (arith, enough)) paired
     (λ us ms up_us enough_us paired_us shorter. good_few most us ms (omega (arith, shorter, few)) up_us enough_us paired_us)
 
-pub good_marked : (units : List ℕ) (marks : List Mark) → IsText units → length units ≤ length marks → IsPaired units marks → Good (marked units marks)
+pub good_marked : (units : List ℕ) (marks : List Mark) → IsText units → length units ≤ length marks → IsPaired units marks → Good (with_marks units marks)
 good_marked units marks text enough paired = good_few (length units) units marks (omega arith) (go_up units text) enough paired
 
 abbrev pub InsertsText : Operation → Type 0
 InsertsText operation = IsText operation.insert
 
 -- what each operation of a whole work inserts
-good_parts : (operations : List Operation) (marks : List Mark) → All InsertsText operations → length (insertions operations) ≤ length marks → IsPaired (insertions operations) marks → GoodParts (marked (insertions operations) marks) operations
+good_parts : (operations : List Operation) (marks : List Mark) → All InsertsText operations → length (insertions operations) ≤ length marks → IsPaired (insertions operations) marks → GoodParts (with_marks (insertions operations) marks) operations
 good_parts [] marks texts enough paired = tt
 good_parts (operation ∷ operations) marks texts enough paired =
     let units = operation.insert in
@@ -132,7 +127,7 @@ uncut_none size (operation ∷ operations) = (
   uncut_none size operations,
 )
 
--- the units that sources show, and those that marked units show
+-- the units that sources show, and those that with_marks units show
 unit_of_source : Source → Option ℕ
 unit_of_source (kept_at place) = None
 unit_of_source (new_unit unit) = Some unit
@@ -155,21 +150,21 @@ shown_none : (size : ℕ) → map unit_shown (replicate size None) ≡ replicate
 shown_none zero = refl
 shown_none (suc size) = ap (λ us. None ∷ us) (shown_none size)
 
-shown_marked : (units : List ℕ) (marks : List Mark) → length units ≤ length marks → map unit_shown (marked units marks) ≡ map Some units
+shown_marked : (units : List ℕ) (marks : List Mark) → length units ≤ length marks → map unit_shown (with_marks units marks) ≡ map Some units
 shown_marked [] marks enough = refl
 shown_marked (unit ∷ units) [] enough = absurd (omega (arith, enough))
 shown_marked (unit ∷ units) (mark ∷ marks) enough = ap (λ us. Some unit ∷ us) (shown_marked units marks (omega (arith, enough)))
 
 -- the units with their marks after a work
 abbrev after_work : Marked → ℕ → Units
-after_work work size = patched work.patch (marked (inserted work.patch) work.marks) (replicate size None)
+after_work work size = patched work.patch (with_marks (inserted work.patch) work.marks) (replicate size None)
 
 same_shown : (work : Marked) (size : ℕ) → length (inserted work.patch) ≤ length work.marks → map unit_of_source (sources_of work.patch size) ≡ map unit_shown (after_work work size)
 same_shown work size enough =
     map-patched unit_of_source work.patch (map new_unit (inserted work.patch)) (kept_from 0 size)
     ∙ ap (λ us. patched work.patch us (map unit_of_source (kept_from 0 size))) (new_some (inserted work.patch))
     ∙ ap (patched work.patch (map Some (inserted work.patch))) (kept_none 0 size)
-    ∙ sym (map-patched unit_shown work.patch (marked (inserted work.patch) work.marks) (replicate size None)
+    ∙ sym (map-patched unit_shown work.patch (with_marks (inserted work.patch) work.marks) (replicate size None)
     ∙ ap (λ us. patched work.patch us (map unit_shown (replicate size None))) (shown_marked (inserted work.patch) work.marks enough)
     ∙ ap (patched work.patch (map Some (inserted work.patch))) (shown_none size))
 
@@ -219,7 +214,7 @@ goes_somes (Some before) (Some (unit, mark) ∷ row) goes = let rest = goes_some
 good_somes : (row : Units) → Good row → Good (map Some (somes_of row))
 good_somes row good = let found = goes_somes None row good.0 in (found.0, found.1 ∙ good.1)
 
-marked_somes : (units : List ℕ) (marks : List Mark) → map Some (somes_of (marked units marks)) ≡ marked units marks
+marked_somes : (units : List ℕ) (marks : List Mark) → map Some (somes_of (with_marks units marks)) ≡ with_marks units marks
 marked_somes [] marks = refl
 marked_somes (unit ∷ units) [] = refl
 marked_somes (unit ∷ units) (mark ∷ marks) = ap (λ us. Some (unit, mark) ∷ us) (marked_somes units marks)
@@ -231,7 +226,7 @@ high_or_low unit high low is = cc
 pub await : (unit : ℕ) (mark : Mark) → is_high_surrogate unit ≡ true → awaited unit mark ≡ Some mark
 await unit mark high = ap (λ t. cond t (Some mark) None) high
 
-paired_head : (units : List ℕ) (marks : List Mark) (mark : Mark) (low : ℕ) (second : Mark) → Goes (Some mark) (marked units marks) → slice_get units 0 ≡ Some low → slice_get marks 0 ≡ Some second → IsNextMark mark second
+paired_head : (units : List ℕ) (marks : List Mark) (mark : Mark) (low : ℕ) (second : Mark) → Goes (Some mark) (with_marks units marks) → slice_get units 0 ≡ Some low → slice_get marks 0 ≡ Some second → IsNextMark mark second
 paired_head [] marks mark low second goes is at = cc
 paired_head (unit ∷ units) [] mark low second goes is at = cc
 paired_head (unit ∷ units) (own ∷ marks) mark low second goes is at = let same : own ≡ second = cc in subst (IsNextMark mark) same goes.1
@@ -247,14 +242,14 @@ is_there_by mark false = refl
 is_there_awaited : (unit : ℕ) (mark : Mark) → is_there (awaited unit mark) ≡ is_high_surrogate unit
 is_there_awaited unit mark = is_there_by mark (is_high_surrogate unit)
 
-pub paired_goes : (state : Option Mark) (units : List ℕ) (marks : List Mark) → GoUp (is_there state) units → Goes state (marked units marks) → IsPaired units marks
+pub paired_goes : (state : Option Mark) (units : List ℕ) (marks : List Mark) → GoUp (is_there state) units → Goes state (with_marks units marks) → IsPaired units marks
 paired_goes state [] marks up goes place high low first second is_high is_low up_high down_low at_first at_second = cc
 paired_goes state (unit ∷ units) [] up goes place high low first second is_high is_low up_high down_low at_first at_second = cc
 paired_goes None (unit ∷ units) (mark ∷ marks) up goes zero high low first second is_high is_low up_high down_low at_first at_second =
     let same : unit ≡ high = cc in
     let own : mark ≡ first = cc in
     let told : is_high_surrogate unit ≡ true = ap is_high_surrogate same ∙ up_high in
-    subst (λ m. IsNextMark m second) own (paired_head units marks mark low second (subst (λ s. Goes s (marked units marks)) (await unit mark told) goes.1) is_low at_second)
+    subst (λ m. IsNextMark m second) own (paired_head units marks mark low second (subst (λ s. Goes s (with_marks units marks)) (await unit mark told) goes.1) is_low at_second)
 paired_goes (Some before) (unit ∷ units) (mark ∷ marks) up goes zero high low first second is_high is_low up_high down_low at_first at_second =
     let same : unit ≡ high = cc in
     let told : is_high_surrogate unit ≡ true = ap is_high_surrogate same ∙ up_high in
@@ -275,7 +270,7 @@ text_of_whole work texts = all_texts work.patch.ops texts
 
 -- what a merge inserts, with its marks
 read_marked : (units : List ℕ) (marks : List Mark) (place unit : ℕ) (past : Option Unit2) → length units ≤ length marks → slice_get units place ≡ Some unit
-    → slice_index_or (marked units marks) place past ≡ Some (unit, slice_index_or marks place no_mark)
+    → slice_index_or (with_marks units marks) place past ≡ Some (unit, slice_index_or marks place no_mark)
 read_marked [] marks place unit past enough is = cc
 read_marked (u ∷ units) [] place unit past enough is = absurd (omega (arith, enough))
 read_marked (u ∷ units) (mark ∷ marks) zero unit past enough is = let same : u ≡ unit = cc in ap (λ v. Some (v, mark)) same
@@ -283,19 +278,19 @@ read_marked (u ∷ units) (mark ∷ marks) (suc place) unit past enough is = rea
 
 module _ (first second : Marked) (enough_first : length (inserted first.patch) ≤ length first.marks) (enough_second : length (inserted second.patch) ≤ length second.marks) where
   named_here : (origin : Origin) (unit : ℕ) → named_unit first.patch second.patch origin ≡ Some unit
-      → named_in (Some (0, no_mark)) (marked (inserted first.patch) first.marks) (marked (inserted second.patch) second.marks) origin ≡ Some (unit, mark_from first.marks second.marks origin)
+      → named_in (Some (0, no_mark)) (with_marks (inserted first.patch) first.marks) (with_marks (inserted second.patch) second.marks) origin ≡ Some (unit, mark_from first.marks second.marks origin)
   named_here (First place) unit is = read_marked (inserted first.patch) first.marks place unit (Some (0, no_mark)) enough_first is
   named_here (Second place) unit is = read_marked (inserted second.patch) second.marks place unit (Some (0, no_mark)) enough_second is
 
   named_each : (found : List Origin) (units : List ℕ) → map (named_unit first.patch second.patch) found ≡ map Some units
-      → map (named_in (Some (0, no_mark)) (marked (inserted first.patch) first.marks) (marked (inserted second.patch) second.marks)) found ≡ marked units (map (mark_from first.marks second.marks) found)
+      → map (named_in (Some (0, no_mark)) (with_marks (inserted first.patch) first.marks) (with_marks (inserted second.patch) second.marks)) found ≡ with_marks units (map (mark_from first.marks second.marks) found)
   named_each [] [] named = refl
   named_each [] (unit ∷ units) named = cc
   named_each (origin ∷ found) [] named = cc
   named_each (origin ∷ found) (unit ∷ units) named =
       let here : named_unit first.patch second.patch origin ≡ Some unit = cc in
       let rest : map (named_unit first.patch second.patch) found ≡ map Some units = cc in
-      let see = named_in (Some (0, no_mark)) (marked (inserted first.patch) first.marks) (marked (inserted second.patch) second.marks) in
+      let see = named_in (Some (0, no_mark)) (with_marks (inserted first.patch) first.marks) (with_marks (inserted second.patch) second.marks) in
       ap (λ u. u ∷ map see found) (named_here origin unit here) ∙ ap (λ us. Some (unit, mark_from first.marks second.marks origin) ∷ us) (named_each found units rest)
 
 whole_turn : (first second : Marked) (size : ℕ) → All InsertsText (merged first.patch second.patch size).ops
@@ -305,16 +300,14 @@ unfolding in_turn
 whole_turn first second size texts counted paired = record { texts = texts; counted = counted; paired = paired }
 
 pub turn_whole : TurnWhole
-turn_whole first second text row on whole_first whole_second =
-    let size = length text in
+turn_whole first second size can whole_first whole_second =
     let nothing : Units = replicate size None in
     let long : length nothing ≡ size = length-replicate size None in
-    let can = CanMerge-CanApply first.patch second.patch text on.first_applies on.second_applies in
     let can_nothing = subst (CanMerge first.patch second.patch) (sym long) can in
     let enough_first : length (inserted first.patch) ≤ length first.marks = omega (arith, whole_first.counted) in
     let enough_second : length (inserted second.patch) ≤ length second.marks = omega (arith, whole_second.counted) in
-    let firsts = marked (inserted first.patch) first.marks in
-    let seconds = marked (inserted second.patch) second.marks in
+    let firsts = with_marks (inserted first.patch) first.marks in
+    let seconds = with_marks (inserted second.patch) second.marks in
     let count_first : length firsts ≡ length (inserted first.patch) = length-marked (inserted first.patch) first.marks enough_first in
     let count_second : length seconds ≡ length (inserted second.patch) = length-marked (inserted second.patch) second.marks enough_second in
     let middle = after_work first size in
@@ -333,7 +326,7 @@ turn_whole first second text row on whole_first whole_second =
     let marks = map (mark_from first.marks second.marks) found in
     let counted : length marks ≡ length (inserted patch) = length-map found (mark_from first.marks second.marks) ∙ length-origins first.patch second.patch size in
     let enough : length (inserted patch) ≤ length marks = omega (arith, counted) in
-    let all = marked (inserted patch) marks in
+    let all = with_marks (inserted patch) marks in
     let same : patched patch all nothing ≡ patched second.patch seconds middle =
     ap (λ us. patched patch us nothing) (sym (named_each first second enough_first enough_second found (inserted patch) (named_all first.patch second.patch size)))
     ∙ ap (λ n. patched (merged first.patch second.patch n) (map (named_in (Some (0, no_mark)) firsts seconds) (origins first.patch second.patch n)) nothing) (sym long)
@@ -367,3 +360,21 @@ typed_paired stroke units place high low first second is_high is_low up down at_
     let one = read_typed stroke (length units) place first at_first (omega (arith, below)) in
     let two = read_typed stroke (length units) (suc place) second at_second below in
     (ap (λ (m : Mark). m.stroke) two ∙ sym (ap (λ (m : Mark). m.stroke) one), ap (λ (m : Mark). m.index) two ∙ omega (arith, ap (λ (m : Mark). m.index) one))
+
+-- the units with their marks after two works in turn
+pub turn_units : TurnUnits
+unfolding in_turn
+turn_units first second row can counted_first counted_second =
+    let size = length row in
+    let enough_first : length (inserted first.patch) ≤ length first.marks = omega (arith, counted_first) in
+    let enough_second : length (inserted second.patch) ≤ length second.marks = omega (arith, counted_second) in
+    let firsts = with_marks (inserted first.patch) first.marks in
+    let seconds = with_marks (inserted second.patch) second.marks in
+    let patch = merged first.patch second.patch size in
+    ap (λ us. patched patch us row) (sym (named_each first second enough_first enough_second (origins first.patch second.patch size) (inserted patch) (named_all first.patch second.patch size)))
+    ∙ patched-merged (Some (0, no_mark)) first.patch second.patch firsts seconds row can
+    (length-marked (inserted first.patch) first.marks enough_first) (length-marked (inserted second.patch) second.marks enough_second)
+
+pub carried_units : CarriedUnits
+carried_units work by after =
+    ap (λ us. with_marks us (carried work by after).marks) (carried_inserted work by after) ∙ ap (with_marks (inserted work.patch)) (carried_marks work by after)

@@ -1,6 +1,6 @@
 -- Own work stands once after each step.
-use Rattle.std.proofs.Common.{◌≡◌, ℕ, ◌+◌, ◌≤◌, ◌⊎◌, inl, inr, List, [], ◌∷◌, ◌++◌, length, map, refl, sym, ◌∙◌, ap, subst, arith}
-use Rattle.std.specs.Prelude.{Some, Contains, All}
+use Rattle.std.proofs.Common.{◌≡◌, ℕ, zero, suc, ◌+◌, ◌≤◌, ◌⊎◌, inl, inr, List, [], ◌∷◌, ◌++◌, length, map, refl, sym, ◌∙◌, ap, subst, arith}
+use Rattle.std.specs.Prelude.{Some, None, Contains, All, slice_get}
 use Rattle.std.proofs.lemmas.List.{length-map}
 use Rattle.std.proofs.lemmas.List.Elements.{Contains-append_left, Contains-append_right, Contains-append_cases}
 use Rattle.pad_text.specs.Text.{IsText}
@@ -12,20 +12,23 @@ use Rattle.pad_patch.specs.Misfit.{CanApply}
 use Rattle.pad_patch.proofs.CallerLemmas.{text_after-inverse, CanApply-inverse_all, texts-inverse}
 use Rattle.pad_transform.specs.Carried.{BothApply}
 use Rattle.pad_stroke.specs.declared.mark.Mark.{Mark}
-use Rattle.pad_stroke.specs.Work.{Marked}
-use Rattle.pad_stroke.specs.Row.{Row, row_after, shown_row, IsRemovedFrom}
+use Rattle.pad_stroke.specs.Work.{Marked, moved_to}
+use Rattle.pad_stroke.specs.Row.{Row, no_marks, row_after, shown_row, IsRemovedFrom}
 use Rattle.pad_stroke.specs.InTurn.{in_turn}
 use Rattle.pad_stroke.specs.Through.{carried}
 use Rattle.pad_stroke.specs.Strip.{stripped}
-use Rattle.pad_stroke.proofs.CallerLemmas.{carried_applies, carried_marks, stripped_applies, stripped_counted, stripped_marks, marks_come_from_either, second_marks_stay}
+use Rattle.pad_stroke.proofs.CallerLemmas.{CanApply-moved_to, carried_applies, carried_marks, stripped_applies, stripped_counted, stripped_marks, marks_come_from_either, second_marks_stay}
 use Rattle.pad_row.specs.Laws.{IsCounted, InTurnOn, how_often}
-use Rattle.pad_row.specs.Own.{StandsOnce, IsOn, IsSent, IsTyped, OwnReverted, OwnApplied, OtherReverted, OtherApplied, Edited, TypedOnce, NothingTyped}
-use Rattle.pad_row.proofs.Counts.{among, none_counted}
+use Rattle.pad_row.specs.Own.{StandsOnce, IsOn, IsSent, IsTyped, OwnReverted, OwnApplied, OtherReverted, OtherApplied, Edited, TypedOnce, MadeIsSent, SentStays, Adopted, NothingTyped}
+use Rattle.pad_row.proofs.Counts.{among, none_counted, counted_there, how_often-append}
 use Rattle.pad_row.proofs.Works.{first_marks_stay, turn_removes, turn_applies, turn_counted, turn_counts, carried_removes_row, carried_back_removes, carried_counted, stripped_removes_row, stripped_counts}
 
 at_most_one : (a b c : ℕ) → c ≤ a + b → a ≤ 1 → b ≤ 1 → (a ≡ 0) ⊎ (b ≡ 0) → c ≤ 1
 at_most_one a b c sum first second (inl none) = omega (arith, sum, second, none)
 at_most_one a b c sum first second (inr none) = omega (arith, sum, first, none)
+
+no_more : (a b c : ℕ) → c ≡ a + b → c ≤ 1 → b ≤ 1
+no_more a b c sum one = omega (arith, sum, one)
 
 pub own_reverted : OwnReverted
 own_reverted gone typed sent text row own work is_sent stands =
@@ -47,6 +50,7 @@ own_reverted gone typed sent text row own work is_sent stands =
             | inl of_own ↦ inr (none_counted work.marks mark (λ of_work. stands.apart mark typed_mark of_work (Contains-append_left own.marks sent mark of_own)))
             | inr none ↦ inl (none_counted own.marks mark none)
           ]);
+      single_sent = λ mark typed_mark. no_more (how_often mark own.marks) (how_often mark sent) (how_often mark (own.marks ++ sent)) (how_often-append mark own.marks sent) (stands.single_sent mark typed_mark);
       apart = λ mark typed_mark contains below. elim (marks_come_from_either own work size mark is_sent.counted stands.counted contains) [
         | inl of_own ↦ is_sent.once mark typed_mark of_own below
         | inr of_work ↦ stands.apart mark typed_mark of_work (Contains-append_right own.marks sent mark below)
@@ -70,6 +74,9 @@ own_reverted gone typed sent text row own work is_sent stands =
       ];
     }
 
+equal_less : {a b : ℕ} → a ≡ b → a ≤ b
+equal_less same = omega (arith, same)
+
 fewer : (a b c : ℕ) → c ≡ a → a ≤ b → b ≤ 1 → c ≤ 1
 fewer a b c same less one = omega (arith, same, less, one)
 
@@ -90,6 +97,12 @@ own_applied gone typed sent text row own work after is_sent stands =
       counted = carried_counted thin own.patch after (stripped_counted work own stands.counted);
       single = λ mark typed_mark. fewer (how_often mark thin.marks) (how_often mark work.marks) (how_often mark there.marks)
           (ap (how_often mark) same) (stripped_counts work own mark) (stands.single mark typed_mark);
+      single_sent = λ mark typed_mark. at_most_one (how_often mark own.marks) (how_often mark sent) (how_often mark (own.marks ++ sent)) (equal_less (how_often-append mark own.marks sent))
+          (is_sent.single mark typed_mark) (stands.single_sent mark typed_mark)
+          (elim (among own.marks mark) [
+            | inl of_own ↦ inr (none_counted sent mark (is_sent.once mark typed_mark of_own))
+            | inr none ↦ inl (none_counted own.marks mark none)
+          ]);
       apart = λ mark typed_mark contains above.
           let left = (stripped_marks work own mark).0 (found mark contains) in
           elim (Contains-append_cases own.marks sent mark above) [
@@ -119,6 +132,7 @@ other_applied gone typed sent text row entries by work after on counted stands =
       applies = carried_applies work by after text on.texts both;
       counted = carried_counted work by after stands.counted;
       single = λ mark typed_mark. subst (λ marks. how_often mark marks ≤ 1) (sym same) (stands.single mark typed_mark);
+      single_sent = stands.single_sent;
       apart = λ mark typed_mark contains. stands.apart mark typed_mark (subst (λ marks. Contains marks mark) same contains);
       there = λ mark typed_mark. elim (stands.there mark typed_mark) [
         | inl of_work ↦ inl (subst (λ marks. Contains marks mark) (sym same) of_work)
@@ -142,6 +156,7 @@ other_reverted gone typed sent text row entries by work after on counted stands 
       applies = subst (CanApply (carried work back after).patch) again (carried_applies work back after changed (texts-inverse by text on.is_text on.applies) both);
       counted = carried_counted work back after stands.counted;
       single = λ mark typed_mark. subst (λ marks. how_often mark marks ≤ 1) (sym same) (stands.single mark typed_mark);
+      single_sent = stands.single_sent;
       apart = λ mark typed_mark contains. stands.apart mark typed_mark (subst (λ marks. Contains marks mark) same contains);
       there = λ mark typed_mark. elim (stands.there mark typed_mark) [
         | inl of_work ↦ inl (subst (λ marks. Contains marks mark) (sym same) of_work)
@@ -161,6 +176,9 @@ new_or_not : (work edit : Marked) (mark : Mark) → Contains edit.marks mark ⊎
 new_or_not work edit mark (inl new) apart c sum few old = sum_first (how_often mark work.marks) (how_often mark edit.marks) c sum (none_counted work.marks mark (apart new)) few
 new_or_not work edit mark (inr none) apart c sum few old = sum_second (how_often mark work.marks) (how_often mark edit.marks) c sum (none_counted edit.marks mark none) (old none)
 
+few_none : (a : ℕ) → a ≡ 0 → a ≤ 1
+few_none a none = omega (arith, none)
+
 pub edited : Edited
 edited gone typed new_gone new_typed sent text row work edit is stands =
     let size = length text in
@@ -175,6 +193,10 @@ edited gone typed new_gone new_typed sent text row work edit is stands =
             | inl old ↦ new_or_not work edit mark (among edit.marks mark) (is.not_in_work mark) (how_often mark both.marks) sum (is.once mark) (λ none. stands.single mark old)
             | inr new ↦ sum_first (how_often mark work.marks) (how_often mark edit.marks) (how_often mark both.marks) sum (none_counted work.marks mark (is.not_in_work mark new)) (is.once mark)
           ];
+      single_sent = λ mark typed_mark. elim (is.old_or_new mark typed_mark) [
+        | inl old ↦ stands.single_sent mark old
+        | inr new ↦ few_none (how_often mark sent) (none_counted sent mark (is.not_sent mark new))
+      ];
       apart = λ mark typed_mark contains below. elim (marks_come_from_either work edit size mark turns.first_counted turns.second_counted contains) [
         | inl of_work ↦ elim (is.old_or_new mark typed_mark) [
           | inl old ↦ stands.apart mark old of_work below
@@ -204,15 +226,67 @@ edited gone typed new_gone new_typed sent text row work edit is stands =
       ];
     }
 
+exactly_one : (a : ℕ) → a ≤ 1 → 1 ≤ a → a ≡ 1
+exactly_one a most least = omega (arith, most, least)
+
 pub typed_once : TypedOnce
-typed_once gone typed sent text row work mark stands typed_mark = (
-  stands.single mark typed_mark,
-  stands.apart mark typed_mark,
-  λ kept. elim (stands.there mark typed_mark) [
-    | inl of_work ↦ inl of_work
-    | inr later ↦ elim later [ inl below ↦ inr below | inr lost ↦ absurd (kept lost) ]
-  ],
-)
+typed_once gone typed sent text row work mark stands typed_mark =
+    let both = work.marks ++ sent in
+    let most : how_often mark both ≤ 1 = at_most_one (how_often mark work.marks) (how_often mark sent) (how_often mark both) (equal_less (how_often-append mark work.marks sent))
+    (stands.single mark typed_mark) (stands.single_sent mark typed_mark)
+    (elim (among work.marks mark) [
+      | inl of_work ↦ inr (none_counted sent mark (stands.apart mark typed_mark of_work))
+      | inr none ↦ inl (none_counted work.marks mark none)
+    ]) in (
+      most,
+      λ kept. exactly_one (how_often mark both) most (counted_there both mark (elim (stands.there mark typed_mark) [
+        | inl of_work ↦ Contains-append_left work.marks sent mark of_work
+        | inr later ↦ elim later [ inl below ↦ Contains-append_right work.marks sent mark below | inr lost ↦ absurd (kept lost) ]
+      ])),
+    )
+
+pub made_is_sent : MadeIsSent
+made_is_sent gone typed sent text row work stands on = record {
+  on = on;
+  counted = stands.counted;
+  removed = stands.removed;
+  single = stands.single;
+  once = stands.apart;
+}
+
+pub sent_stays : SentStays
+sent_stays gone typed new_gone new_typed new sent text row own is grows old_or_new not_own not_in_row = record {
+  on = is.on;
+  counted = is.counted;
+  removed = λ mark typed_mark removed. elim (old_or_new mark typed_mark) [
+    | inl old ↦ grows mark (is.removed mark old removed)
+    | inr fresh ↦ absurd (not_in_row mark removed.0 fresh removed.2)
+  ];
+  single = λ mark typed_mark. elim (old_or_new mark typed_mark) [
+    | inl old ↦ is.single mark old
+    | inr fresh ↦ few_none (how_often mark own.marks) (none_counted own.marks mark (not_own mark fresh))
+  ];
+  once = λ mark typed_mark of_own. elim (old_or_new mark typed_mark) [
+    | inl old ↦ is.once mark old of_own
+    | inr fresh ↦ absurd (not_own mark fresh of_own)
+  ];
+}
+
+unmarked : (size place : ℕ) (mark : Mark) → slice_get (no_marks size) place ≡ Some (Some mark) → ⊥
+unmarked zero place mark is = cc
+unmarked (suc size) zero mark is = let never : None ≡ Some mark = cc in cc
+unmarked (suc size) (suc place) mark is = unmarked size place mark is
+
+pub adopted : Adopted
+adopted gone typed text work before stands = record {
+  applies = CanApply-moved_to work before stands.applies text;
+  counted = stands.counted;
+  single = stands.single;
+  single_sent = stands.single_sent;
+  apart = stands.apart;
+  there = stands.there;
+  removed = λ mark typed_mark removed. absurd (unmarked (length text) removed.0 mark removed.2);
+}
 
 none_typed : (mark : Mark) → Contains [] mark → ⊥
 none_typed mark (k, below, is) = omega arith
@@ -222,6 +296,7 @@ nothing_typed gone sent text row work can counted = record {
   applies = can;
   counted = counted;
   single = λ mark typed_mark. absurd (none_typed mark typed_mark);
+  single_sent = λ mark typed_mark. absurd (none_typed mark typed_mark);
   apart = λ mark typed_mark. absurd (none_typed mark typed_mark);
   there = λ mark typed_mark. absurd (none_typed mark typed_mark);
   removed = λ mark typed_mark. absurd (none_typed mark typed_mark);

@@ -12,17 +12,17 @@ use Rattle.pad_patch.specs.declared.patch.Patch.{Patch}
 use Rattle.pad_patch.specs.Piece.{inserted}
 use Rattle.pad_patch.proofs.CallerLemmas.{at_has, has_at, contains_has, has_contains, get-map, get_below, below_get}
 use Rattle.pad_stroke.specs.declared.mark.Mark.{Mark}
-use Rattle.pad_stroke.specs.Work.{Marked}
+use Rattle.pad_stroke.specs.Work.{Marked, moved_to}
 use Rattle.pad_stroke.specs.InTurn.{no_mark}
 use Rattle.pad_stroke.specs.Through.{carried}
 use Rattle.pad_stroke.specs.Strip.{stays, staying, KeepsPairs, stripped}
 use Rattle.pad_stroke.proofs.CallerLemmas.{stays_true, stays_none, carried_marks, carried_inserted, carried_texts, stripped_counted, stripped_inserted, stripped_is_filter, stripped_texts, pairs_stay_whole}
-use Rattle.pad_row.specs.Pairs.{IsNextMark, IsPaired, IsWhole, AreTyped, CarriedWhole, StrippedWhole, StripsWhole}
+use Rattle.pad_row.specs.Pairs.{IsNextMark, IsPaired, IsWhole, AreTyped, CarriedWhole, StrippedWhole, StripsWhole, MovedWhole, MovedTyped, StrippedUnits, with_marks, stays_with}
 use Rattle.pad_row.proofs.Counts.{among}
 use Rattle.pad_row.proofs.Units.{GoUp, go_up, low_after, high_before}
 use Rattle.pad_row.proofs.TypedUnits.{typed_there}
 use Rattle.pad_row.proofs.PairRows.{Units, awaited, Goes, ending, Good}
-use Rattle.pad_row.proofs.PairWorks.{marked, paired_goes, await, text_of_whole}
+use Rattle.pad_row.proofs.PairWorks.{paired_goes, await, text_of_whole}
 
 pub carried_whole : CarriedWhole
 carried_whole work by after whole = record {
@@ -134,21 +134,21 @@ keeps_of gone units marks keeps place high low first second at_high at_low up do
     ∙ ap (λ n. stays gone (slice_index_or marks n no_mark)) (sym next) ∙ ap (stays gone) (get_or_from_slice_get marks (suc place) second no_mark at_second)
 
 -- one unit that is no high surrogate, in front of units that are good
-one_left : (unit : ℕ) (mark : Mark) (us : List ℕ) (ms : List Mark) (test : Bool) → is_high_surrogate unit ≡ false → is_low_surrogate unit ≡ false → Good (marked us ms)
-    → Good (marked (cond test (unit ∷ us) us) (cond test (mark ∷ ms) ms))
+one_left : (unit : ℕ) (mark : Mark) (us : List ℕ) (ms : List Mark) (test : Bool) → is_high_surrogate unit ≡ false → is_low_surrogate unit ≡ false → Good (with_marks us ms)
+    → Good (with_marks (cond test (unit ∷ us) us) (cond test (mark ∷ ms) ms))
 one_left unit mark us ms false high low rest = rest
 one_left unit mark us ms true high low rest =
     let shown : awaited unit mark ≡ None = ap (λ t. cond t (Some mark) None) high in
-    ((low, subst (λ s. Goes s (marked us ms)) (sym shown) rest.0), ap (λ s. ending s (marked us ms)) shown ∙ rest.1)
+    ((low, subst (λ s. Goes s (with_marks us ms)) (sym shown) rest.0), ap (λ s. ending s (with_marks us ms)) shown ∙ rest.1)
 
 -- a pair, both of whose units stay or neither
-two_left : (unit low : ℕ) (mark own : Mark) (us : List ℕ) (ms : List Mark) (one other : Bool) → one ≡ other → is_high_surrogate unit ≡ true → is_low_surrogate unit ≡ false → is_low_surrogate low ≡ true → IsNextMark mark own → Good (marked us ms)
-    → Good (marked (cond one (unit ∷ cond other (low ∷ us) us) (cond other (low ∷ us) us)) (cond one (mark ∷ cond other (own ∷ ms) ms) (cond other (own ∷ ms) ms)))
+two_left : (unit low : ℕ) (mark own : Mark) (us : List ℕ) (ms : List Mark) (one other : Bool) → one ≡ other → is_high_surrogate unit ≡ true → is_low_surrogate unit ≡ false → is_low_surrogate low ≡ true → IsNextMark mark own → Good (with_marks us ms)
+    → Good (with_marks (cond one (unit ∷ cond other (low ∷ us) us) (cond other (low ∷ us) us)) (cond one (mark ∷ cond other (own ∷ ms) ms) (cond other (own ∷ ms) ms)))
 two_left unit low mark own us ms false false same high no_low is_low next rest = rest
 two_left unit low mark own us ms true false same high no_low is_low next rest = cc
 two_left unit low mark own us ms false true same high no_low is_low next rest = cc
 two_left unit low mark own us ms true true same high no_low is_low next rest =
-    let row = marked (low ∷ us) (own ∷ ms) in
+    let row = with_marks (low ∷ us) (own ∷ ms) in
     ((no_low, subst (λ s. Goes s row) (sym (await unit mark high)) (is_low, next, rest.0)), ap (λ s. ending s row) (await unit mark high) ∙ rest.1)
 
 tail_keeps : (gone : List Mark) (unit : ℕ) (units : List ℕ) (mark : Mark) (marks : List Mark) → Keeps gone (unit ∷ units) (mark ∷ marks) → Keeps gone units marks
@@ -159,7 +159,7 @@ tail_paired unit units mark marks paired place = paired (suc place)
 
 -- what is left of units that go up in pairs
 abbrev Left : List Mark → List ℕ → List Mark → Type 0
-Left gone units marks = Good (marked (staying gone units marks) (filter (stays gone) marks))
+Left gone units marks = Good (with_marks (staying gone units marks) (filter (stays gone) marks))
 
 left_by : (gone : List Mark) (unit : ℕ) (units : List ℕ) (mark : Mark) (marks : List Mark) (test : Bool) → is_high_surrogate unit ≡ test → is_low_surrogate unit ≡ false → GoUp test units → length units ≤ length marks
     → IsPaired (unit ∷ units) (mark ∷ marks) → Keeps gone (unit ∷ units) (mark ∷ marks)
@@ -195,6 +195,29 @@ stripped_whole work of whole keeps =
       texts = texts;
       counted = stripped_counted work of whole.counted;
       paired = paired_goes None (inserted (stripped work of).patch) (stripped work of).marks up
-          (subst (λ us. Goes None (marked us (stripped work of).marks)) (sym same_units)
-          (subst (λ ms. Goes None (marked (staying of.marks units work.marks) ms)) (sym (stripped_is_filter work of)) left.0));
+          (subst (λ us. Goes None (with_marks us (stripped work of).marks)) (sym same_units)
+          (subst (λ ms. Goes None (with_marks (staying of.marks units work.marks) ms)) (sym (stripped_is_filter work of)) left.0));
     }
+
+pub moved_whole : MovedWhole
+moved_whole work before whole = record { texts = whole.texts; counted = whole.counted; paired = whole.paired }
+
+pub moved_typed : MovedTyped
+moved_typed work before typed are = are
+
+-- the units that stay, with their marks
+units_left : (gone : List Mark) (units : List ℕ) (marks : List Mark) → with_marks (staying gone units marks) (filter (stays gone) marks) ≡ filter (stays_with gone) (with_marks units marks)
+units_left gone [] marks = refl
+units_left gone (unit ∷ units) [] = refl
+units_left gone (unit ∷ units) (mark ∷ marks) = by_test (staying gone units marks) (filter (stays gone) marks) (filter (stays_with gone) (with_marks units marks)) (stays gone mark) (units_left gone units marks)
+  where
+    by_test : (us : List ℕ) (ms : List Mark) (left : Units) (test : Bool) → with_marks us ms ≡ left
+        → with_marks (cond test (unit ∷ us) us) (cond test (mark ∷ ms) ms) ≡ cond test (Some (unit, mark) ∷ left) left
+    by_test us ms left true same = ap (λ row. Some (unit, mark) ∷ row) same
+    by_test us ms left false same = same
+
+pub stripped_units : StrippedUnits
+stripped_units work of counted =
+    ap (λ us. with_marks us (stripped work of).marks) (stripped_inserted work of counted)
+    ∙ ap (with_marks (staying of.marks (inserted work.patch) work.marks)) (stripped_is_filter work of)
+    ∙ units_left of.marks (inserted work.patch) work.marks

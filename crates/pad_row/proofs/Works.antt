@@ -1,15 +1,16 @@
 -- Works over rows.
-use Rattle.std.proofs.Common.{◌≡◌, ℕ, ◌+◌, ◌<◌, ◌≤◌, ◌⊎◌, inl, inr, List, [], ◌∷◌, ◌++◌, length, map, replicate, refl, sym, ◌∙◌, ap, subst, arith}
-use Rattle.std.specs.Prelude.{Option, Some, None, All, Contains, slice_get, filter}
+use Rattle.std.proofs.Common.{◌≡◌, ℕ, ◌+◌, ◌<◌, ◌≤◌, ◌⊎◌, inl, inr, Bool, true, false, cond, ◌&&◌, ◌==◌, List, [], ◌∷◌, ◌++◌, length, map, drop, replicate, refl, sym, ◌∙◌, ap, subst, arith}
+use Rattle.std.specs.Prelude.{Option, Some, None, ◌↔◌, not, All, Contains, slice_get, filter}
+use Rattle.std.proofs.lemmas.Bool.{eqb-true}
 use Rattle.std.proofs.lemmas.List.{length-map, length-replicate}
 use Rattle.pad_text.specs.Text.{IsText}
 use Rattle.pad_patch.specs.declared.operation.Operation.{Operation}
 use Rattle.pad_patch.specs.declared.patch.Patch.{Patch}
-use Rattle.pad_patch.specs.Piece.{inserted, text_after, patched, length_after}
+use Rattle.pad_patch.specs.Piece.{end_of, inserted, text_after, patched, length_after}
 use Rattle.pad_patch.specs.Inverse.{inverse}
 use Rattle.pad_patch.specs.Misfit.{EndsAfter, CanApply}
-use Rattle.pad_patch.specs.Removed.{IsKeptFrom}
-use Rattle.pad_patch.proofs.CallerLemmas.{IsLaid, laid, somes_of, same_length, length-text_after, element_kept, kept_element, kept_by_inverse}
+use Rattle.pad_patch.specs.Removed.{Removes, IsKeptFrom}
+use Rattle.pad_patch.proofs.CallerLemmas.{IsLaid, laid, somes_of, same_length, length-text_after, element_kept, kept_element, kept_or_new, kept_by_inverse, contains_has, has_contains, has_at, at_has, RemovedIn, removes_of, of_removes, removed_at_places}
 use Rattle.pad_merge.specs.Merge.{merged, CanMerge}
 use Rattle.pad_merge.proofs.CallerLemmas.{CanMerge-CanApply, CanApply-merged}
 use Rattle.pad_stroke.specs.declared.mark.Mark.{Mark}
@@ -17,9 +18,9 @@ use Rattle.pad_stroke.specs.Work.{Marked}
 use Rattle.pad_stroke.specs.Row.{Row, row_after, shown_row, no_marks, IsRemovedFrom}
 use Rattle.pad_stroke.specs.InTurn.{in_turn}
 use Rattle.pad_stroke.specs.Through.{carried}
-use Rattle.pad_stroke.specs.Strip.{stays, stripped}
-use Rattle.pad_stroke.proofs.CallerLemmas.{in_turn_patch, in_turn_counted, in_turn_row, in_turn_first, in_turn_removes, carried_removes, carried_inserted, carried_marks, stripped_removes, stripped_is_filter, marks_are_shown}
-use Rattle.pad_row.specs.Laws.{IsCounted, InTurnOn, how_often, TurnRow, FirstMarksStay, TurnRemoves, TurnApplies, TurnCounted, TurnCounts, CarriedRemoves, CarriedBackRemoves, CarriedCounted, StrippedRemoves, StrippedCounts, RowIsAsLong}
+use Rattle.pad_stroke.specs.Strip.{stays, staying, thinned, is_needed, stripped}
+use Rattle.pad_stroke.proofs.CallerLemmas.{in_turn_patch, in_turn_counted, in_turn_row, in_turn_first, in_turn_removes, in_turn_removes_just, carried_removes, carried_inserted, carried_marks, stripped_removes, stripped_is_filter, marks_are_shown}
+use Rattle.pad_row.specs.Laws.{IsCounted, InTurnOn, how_often, TurnRow, FirstMarksStay, TurnRemoves, TurnRemovesJust, TurnApplies, TurnCounted, TurnCounts, CarriedRemoves, CarriedBackRemoves, CarriedRemovesKept, CarriedCounted, StrippedRemoves, StrippedCounts, RowIsAsLong, RowMarks, RemovedMarks, MovedAlike}
 use Rattle.pad_row.proofs.Counts.{in_row, in_row-some, in_row-none, row_often, how_often-filter}
 
 -- both works can be merged on a text of the row's length
@@ -41,6 +42,12 @@ pub turn_removes : TurnRemoves
 turn_removes first second text row mark on removed =
     in_turn_removes first second row mark (can_merge first second text row on) on.first_counted
     (subst (λ n. IsRemovedFrom (in_turn first second n).patch row mark) (sym on.long) removed)
+
+pub turn_removes_just : TurnRemovesJust
+turn_removes_just first second text row mark on =
+    subst (λ n. IsRemovedFrom (in_turn first second n).patch row mark
+    ↔ (IsRemovedFrom first.patch row mark ⊎ IsRemovedFrom second.patch (row_after first.patch (no_marks (length (inserted first.patch))) row) mark)) on.long
+    (in_turn_removes_just first second row mark (can_merge first second text row on))
 
 pub turn_applies : TurnApplies
 turn_applies first second text row on =
@@ -94,8 +101,60 @@ carried_back_removes work by after text row entries mark long counted can both (
 pub carried_counted : CarriedCounted
 carried_counted work by after counted = ap length (carried_marks work by after) ∙ counted ∙ ap length (sym (carried_inserted work by after))
 
-pub stripped_removes_row : StrippedRemoves
+pub carried_removes_kept : CarriedRemovesKept
+carried_removes_kept work by after text both = carried_removes work by after text both
+
+-- an operation that removes something is needed
+needed_by : (remove : ℕ) (rest : Bool) → 0 < remove → not ((remove == 0) && rest) ≡ true
+needed_by remove rest some = by_zero (remove == 0) refl
+  where
+    by_zero : (test : Bool) → (remove == 0) ≡ test → not (test && rest) ≡ true
+    by_zero false is = refl
+    by_zero true is = let none : remove ≡ 0 = eqb-true remove 0 is in absurd (omega (arith, none, some))
+
+removed_thin : (gone : List Mark) (operations : List Operation) (marks : List Mark) (place : ℕ) → RemovedIn operations place → RemovedIn (filter is_needed (thinned gone operations marks)) place
+removed_thin gone [] marks place removed = removed
+removed_thin gone (operation ∷ operations) marks place removed =
+    by_test (filter is_needed (thinned gone operations (drop (length operation.insert) marks))) (is_needed thin) refl removed (removed_thin gone operations (drop (length operation.insert) marks) place)
+  where
+    thin : Operation
+    thin = record operation { insert = staying gone operation.insert marks }
+
+    by_test : (later : List Operation) (test : Bool) → is_needed thin ≡ test → ((operation.offset ≤ place) × (place < end_of operation)) ⊎ RemovedIn operations place → (RemovedIn operations place → RemovedIn later place)
+        → RemovedIn (cond test (thin ∷ later) later) place
+    by_test later true is (inl here) rest = inl here
+    by_test later true is (inr behind) rest = inr (rest behind)
+    by_test later false is (inr behind) rest = rest behind
+    by_test later false is (inl here) rest =
+        let needed : is_needed thin ≡ true = needed_by operation.remove (length (staying gone operation.insert marks) == 0) (omega (arith, here.0, here.1)) in
+        cc
+
+pub stripped_removes_all : StrippedRemoves
+unfolding stripped
+stripped_removes_all work of place = (
+  stripped_removes work of place,
+  λ (index, operation, is, from, below).
+      removes_of (filter is_needed (thinned of.marks work.patch.ops work.marks)) place
+      (removed_thin of.marks work.patch.ops work.marks place (of_removes work.patch.ops place index operation is from below)),
+)
+
+pub stripped_removes_row : (work of : Marked) (row : Row) (mark : Mark) → IsRemovedFrom (stripped work of).patch row mark → IsRemovedFrom work.patch row mark
 stripped_removes_row work of row mark (place, removes, is) = (place, stripped_removes work of place removes, is)
+
+pub row_marks : RowMarks
+row_marks patch entries row mark counted contains =
+    let after = row_after patch entries row in
+    let at = has_at (Some mark) after (contains_has (Some mark) after contains) in
+    elim (kept_or_new patch entries row at.0 (Some mark) counted at.1) [
+      | inl kept ↦ inr (has_contains (Some mark) row (at_has (Some mark) row kept.0 kept.2))
+      | inr new ↦ inl (has_contains (Some mark) entries (at_has (Some mark) entries new.0 new.1))
+    ]
+
+pub removed_marks : RemovedMarks
+removed_marks patch row mark = let places = removed_at_places patch row (Some mark) in (places.1, places.0)
+
+pub moved_alike : MovedAlike
+moved_alike work before row = (refl, refl, refl, λ place. (λ removes. removes, λ removes. removes))
 
 pub stripped_counts : StrippedCounts
 stripped_counts work of mark =

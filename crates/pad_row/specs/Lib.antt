@@ -1,3 +1,5 @@
 pub mod Laws
 pub mod Own
 pub mod Pairs
+pub mod Edits
+pub mod TakenBack

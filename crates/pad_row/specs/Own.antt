@@ -8,8 +8,8 @@ use Rattle.pad_patch.specs.Piece.{inserted, text_after}
 use Rattle.pad_patch.specs.Inverse.{inverse}
 use Rattle.pad_patch.specs.Misfit.{CanApply}
 use Rattle.pad_stroke.specs.declared.mark.Mark.{Mark}
-use Rattle.pad_stroke.specs.Work.{Marked}
-use Rattle.pad_stroke.specs.Row.{Row, row_after, shown_row, IsRemovedFrom}
+use Rattle.pad_stroke.specs.Work.{Marked, moved_to}
+use Rattle.pad_stroke.specs.Row.{Row, no_marks, row_after, shown_row, IsRemovedFrom}
 use Rattle.pad_stroke.specs.InTurn.{in_turn}
 use Rattle.pad_stroke.specs.Through.{carried}
 use Rattle.pad_stroke.specs.Strip.{stripped}
@@ -21,6 +21,7 @@ pub record StandsOnce (gone typed sent : List Mark) (text : List ℕ) (row : Row
   pub applies : CanApply work.patch text
   pub counted : IsCounted work
   pub single : (mark : Mark) → Contains typed mark → how_often mark work.marks ≤ 1
+  pub single_sent : (mark : Mark) → Contains typed mark → how_often mark sent ≤ 1
   pub apart : (mark : Mark) → Contains typed mark → Contains work.marks mark → ¬ (Contains sent mark)
   pub there : (mark : Mark) → Contains typed mark → Contains work.marks mark ⊎ Contains sent mark ⊎ Contains gone mark
   pub removed : (mark : Mark) → Contains typed mark → IsRemovedFrom work.patch row mark → Contains gone mark
@@ -87,12 +88,31 @@ Edited =
     (gone typed new_gone new_typed sent : List Mark) (text : List ℕ) (row : Row) (work edit : Marked) → IsTyped gone typed new_gone new_typed sent text row work edit
     → StandsOnce gone typed sent text row work → StandsOnce new_gone new_typed sent text row (in_turn work edit (length text))
 
--- a mark that was typed stands in the work or in the messages below, not in both, and in the work at most once; in one of
--- them it stands if no edit removed it
+-- a mark that was typed stands at most once in the work and the messages below together, and once if no edit removed it
 abbrev pub TypedOnce : Type 0
 TypedOnce =
     (gone typed sent : List Mark) (text : List ℕ) (row : Row) (work : Marked) (mark : Mark) → StandsOnce gone typed sent text row work → Contains typed mark
-    → (how_often mark work.marks ≤ 1) × (Contains work.marks mark → ¬ (Contains sent mark)) × (¬ (Contains gone mark) → Contains work.marks mark ⊎ Contains sent mark)
+    → (how_often mark (work.marks ++ sent) ≤ 1) × (¬ (Contains gone mark) → how_often mark (work.marks ++ sent) ≡ 1)
+
+-- the work is sent as it is, as a message on the text
+abbrev pub MadeIsSent : Type 0
+MadeIsSent =
+    (gone typed sent : List Mark) (text : List ℕ) (row : Row) (work : Marked) → StandsOnce gone typed sent text row work → IsOn work.patch text row
+    → IsSent gone typed sent text row work
+
+-- a sent work stays one as an edit comes: the marks of the edit are not its own, and not in its row
+abbrev pub SentStays : Type 0
+SentStays =
+    (gone typed new_gone new_typed new sent : List Mark) (text : List ℕ) (row : Row) (own : Marked) → IsSent gone typed sent text row own
+    → ((mark : Mark) → Contains gone mark → Contains new_gone mark) → ((mark : Mark) → Contains new_typed mark → Contains typed mark ⊎ Contains new mark)
+    → ((mark : Mark) → Contains new mark → ¬ (Contains own.marks mark)) → ((mark : Mark) (place : ℕ) → Contains new mark → slice_get row place ≢ Some (Some mark))
+    → IsSent new_gone new_typed sent text row own
+
+-- a work on the empty text, with no message sent yet, is moved to another text
+abbrev pub Adopted : Type 0
+Adopted =
+    (gone typed : List Mark) (text : List ℕ) (work : Marked) (before : Name) → StandsOnce gone typed [] [] [] work
+    → StandsOnce gone typed [] text (no_marks (length text)) (moved_to work before)
 
 -- if nothing was typed yet there is nothing to show
 abbrev pub NothingTyped : Type 0

@@ -1,19 +1,19 @@
 -- The marks of the two units of a surrogate pair.
-use Rattle.std.specs.Prelude.{◌≡◌, ℕ, suc, ◌+◌, List, map, length, Some, All, IsTrue, slice_get}
+use Rattle.std.specs.Prelude.{◌≡◌, ℕ, suc, ◌+◌, Bool, true, List, [], ◌∷◌, map, filter, length, Option, Some, None, All, IsTrue, slice_get}
 use Rattle.std.specs.Char.Utf16.{is_high_surrogate, is_low_surrogate}
 use Rattle.pad_text.specs.Text.{IsText}
 use Rattle.pad_text.specs.declared.name.Name.{Name}
 use Rattle.pad_patch.specs.declared.operation.Operation.{Operation}
 use Rattle.pad_patch.specs.declared.patch.Patch.{Patch}
-use Rattle.pad_patch.specs.Piece.{inserted}
+use Rattle.pad_patch.specs.Piece.{inserted, patched}
+use Rattle.pad_merge.specs.Merge.{CanMerge}
 use Rattle.pad_stroke.specs.declared.mark.Mark.{Mark}
 use Rattle.pad_stroke.specs.Mark.{marks_of}
-use Rattle.pad_stroke.specs.Work.{Marked}
-use Rattle.pad_stroke.specs.Row.{Row}
+use Rattle.pad_stroke.specs.Work.{Marked, moved_to}
 use Rattle.pad_stroke.specs.InTurn.{in_turn}
 use Rattle.pad_stroke.specs.Through.{carried}
-use Rattle.pad_stroke.specs.Strip.{KeepsPairs, stripped}
-use Rattle.pad_row.specs.Laws.{IsCounted, InTurnOn}
+use Rattle.pad_stroke.specs.Strip.{KeepsPairs, stays, stripped}
+use Rattle.pad_row.specs.Laws.{IsCounted}
 
 -- the second mark is the next one of the same edit
 abbrev pub IsNextMark : Mark → Mark → Type 0
@@ -42,7 +42,7 @@ TypedPaired = (stroke : ℕ) (units : List ℕ) → IsPaired units (marks_of str
 
 -- works in turn stay paired
 abbrev pub TurnWhole : Type 0
-TurnWhole = (first second : Marked) (text : List ℕ) (row : Row) → InTurnOn first second text row → IsWhole first → IsWhole second → IsWhole (in_turn first second (length text))
+TurnWhole = (first second : Marked) (size : ℕ) → CanMerge first.patch second.patch size → IsWhole first → IsWhole second → IsWhole (in_turn first second size)
 
 -- and so does a carried work
 abbrev pub CarriedWhole : Type 0
@@ -68,3 +68,47 @@ CarriedTyped = (work : Marked) (by : Patch) (after : Name) (typed : Mark → ℕ
 
 abbrev pub StrippedTyped : Type 0
 StrippedTyped = (work of : Marked) (typed : Mark → ℕ) → IsCounted work → AreTyped typed work → AreTyped typed (stripped work of)
+
+-- a moved work has the same units with the same marks
+abbrev pub MovedWhole : Type 0
+MovedWhole = (work : Marked) (before : Name) → IsWhole work → IsWhole (moved_to work before)
+
+abbrev pub MovedTyped : Type 0
+MovedTyped = (work : Marked) (before : Name) (typed : Mark → ℕ) → AreTyped typed work → AreTyped typed (moved_to work before)
+
+-- for each unit of a text the unit with its mark, or nothing
+abbrev pub UnitRow : Type 0
+UnitRow = List (Option (ℕ × Mark))
+
+-- units with their marks
+abbrev pub with_marks : List ℕ → List Mark → UnitRow
+with_marks [] marks = []
+with_marks (unit ∷ units) [] = []
+with_marks (unit ∷ units) (mark ∷ marks) = Some (unit, mark) ∷ with_marks units marks
+
+-- the units that a work inserts, with their marks
+abbrev pub marked_units : Marked → UnitRow
+marked_units work = with_marks (inserted work.patch) work.marks
+
+-- the row of units after a work
+abbrev pub units_after : Marked → UnitRow → UnitRow
+units_after work row = patched work.patch (marked_units work) row
+
+-- the units with their marks after two works in turn are those after the first one and then the second one
+abbrev pub TurnUnits : Type 0
+TurnUnits =
+    (first second : Marked) (row : UnitRow) → CanMerge first.patch second.patch (length row) → IsCounted first → IsCounted second
+    → units_after (in_turn first second (length row)) row ≡ units_after second (units_after first row)
+
+-- those of a carried work are those of the work
+abbrev pub CarriedUnits : Type 0
+CarriedUnits = (work : Marked) (by : Patch) (after : Name) → marked_units (carried work by after) ≡ marked_units work
+
+-- the mark of the unit is none of these
+abbrev pub stays_with : List Mark → Option (ℕ × Mark) → Bool
+stays_with gone None = true
+stays_with gone (Some (unit, mark)) = stays gone mark
+
+-- those of a stripped work are those whose marks the other work has not
+abbrev pub StrippedUnits : Type 0
+StrippedUnits = (work of : Marked) → IsCounted work → marked_units (stripped work of) ≡ filter (stays_with of.marks) (marked_units work)

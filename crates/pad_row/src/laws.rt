@@ -1,7 +1,7 @@
 //! Laws of works over rows, each proved once.
-ghost use Rattle.pad_row.specs.Laws.{TurnRow, FirstMarksStay, TurnRemoves, TurnApplies, TurnCounted, TurnCounts};
-ghost use Rattle.pad_row.specs.Laws.{CarriedRemoves, CarriedBackRemoves, CarriedApplies, CarriedCounted, CarriedMarks};
-ghost use Rattle.pad_row.specs.Laws.{StrippedRemoves, StrippedApplies, StrippedCounted, StrippedCounts, RowIsAsLong};
+ghost use Rattle.pad_row.specs.Laws.{TurnRow, FirstMarksStay, TurnRemoves, TurnRemovesJust, TurnApplies, TurnCounted, TurnCounts};
+ghost use Rattle.pad_row.specs.Laws.{CarriedRemoves, CarriedBackRemoves, CarriedRemovesKept, CarriedApplies, CarriedCounted, CarriedMarks};
+ghost use Rattle.pad_row.specs.Laws.{StrippedRemoves, StrippedApplies, StrippedCounted, StrippedCounts, RowIsAsLong, RowMarks, RowCounts, RemovedMarks, MovedAlike, MovedApplies};
 
 /// The row after two works in turn is the row after the first one and then the second one.
 pub fn turn_row()
@@ -16,6 +16,11 @@ pub fn first_marks_stay()
 /// Two works in turn remove of a text what the first one removes of it and what the second one removes of the rest.
 pub fn turn_removes()
     ensures { TurnRemoves }
+{}
+
+/// Exactly: what the second one removes of the rest it removes of the row in which the units of the first one have no marks.
+pub fn turn_removes_just()
+    ensures { TurnRemovesJust }
 {}
 
 /// Two works in turn can be applied as one.
@@ -43,6 +48,11 @@ pub fn carried_back_removes()
     ensures { CarriedBackRemoves }
 {}
 
+/// Each unit that a carried work removes is one that the patch kept and the work removed.
+pub fn carried_removes_kept()
+    ensures { CarriedRemovesKept }
+{}
+
 /// A work that is carried over a patch that inserts texts can be applied to the text after that patch.
 pub fn carried_applies()
     ensures { CarriedApplies }
@@ -58,7 +68,7 @@ pub fn carried_marks()
     ensures { CarriedMarks }
 {}
 
-/// A stripped work removes only units that the work removed.
+/// A stripped work removes just the units that the work removed.
 pub fn stripped_removes()
     ensures { StrippedRemoves }
 {}
@@ -81,4 +91,29 @@ pub fn stripped_counts()
 /// The row after a patch has one entry for each unit of the text after it.
 pub fn row_is_as_long()
     ensures { RowIsAsLong }
+{}
+
+/// A mark of the row after a patch is one of the row, or one of what the patch inserts.
+pub fn row_marks()
+    ensures { RowMarks }
+{}
+
+/// A mark stands in the row after a patch and among what is removed as often as in the row and among what is inserted.
+pub fn row_counts()
+    ensures { RowCounts }
+{}
+
+/// The marks that a patch removes of a row are those of the entries that it removes.
+pub fn removed_marks()
+    ensures { RemovedMarks }
+{}
+
+/// A work that is moved to another text makes the same rows and removes the same.
+pub fn moved_alike()
+    ensures { MovedAlike }
+{}
+
+/// A moved work can be applied to each text if the work can be applied to the empty text.
+pub fn moved_applies()
+    ensures { MovedApplies }
 {}

@@ -10,6 +10,8 @@
 //! ```
 #![tactic(auto)]
 
+pub mod edits;
 pub mod laws;
 pub mod own;
 pub mod pairs;
+pub mod taking_back;

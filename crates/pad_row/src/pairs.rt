@@ -1,5 +1,6 @@
 //! Marks and their units: laws of surrogate pairs, each proved once.
 ghost use Rattle.pad_row.specs.Pairs.{TypedPaired, TurnWhole, CarriedWhole, StrippedWhole, StripsWhole, TurnTyped, CarriedTyped, StrippedTyped};
+ghost use Rattle.pad_row.specs.Pairs.{MovedWhole, MovedTyped, TurnUnits, CarriedUnits, StrippedUnits};
 
 /// The two units of each pair that one edit types have successive marks.
 pub fn typed_paired()
@@ -39,4 +40,29 @@ pub fn carried_typed()
 /// In a stripped work each mark stays with its unit.
 pub fn stripped_typed()
     ensures { StrippedTyped }
+{}
+
+/// The two units of each pair of a moved work have successive marks.
+pub fn moved_whole()
+    ensures { MovedWhole }
+{}
+
+/// In a moved work each mark stays with its unit.
+pub fn moved_typed()
+    ensures { MovedTyped }
+{}
+
+/// The units with their marks after two works in turn are those after the first one and then the second one.
+pub fn turn_units()
+    ensures { TurnUnits }
+{}
+
+/// A carried work inserts the same units with the same marks.
+pub fn carried_units()
+    ensures { CarriedUnits }
+{}
+
+/// A stripped work inserts the units, with their marks, whose marks the other work has not.
+pub fn stripped_units()
+    ensures { StrippedUnits }
 {}
