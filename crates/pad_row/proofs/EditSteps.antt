@@ -45,19 +45,18 @@ mark_there stroke count place below =
     let of_stroke : ℕ → Mark = λ index. record { stroke = stroke; index = index } in
     get-map of_stroke (range_with_len 0 count) place ∙ ap (option_map of_stroke) (get-range 0 count place below) ∙ ap (λ n. Some (of_stroke n)) (omega arith)
 
+abbrev mark_of : ℕ → ℕ → Mark
+mark_of stroke index = record { stroke = stroke; index = index }
+
 there_mark : (stroke count place : ℕ) (mark : Mark) → slice_get (marks_of stroke count) place ≡ Some mark → (mark.stroke ≡ stroke) × (mark.index < count)
 there_mark stroke count place mark is =
-    by_range (slice_get (range_with_len 0 count) place) refl (sym (get-map of_stroke (range_with_len 0 count) place) ∙ is)
+    by_range (slice_get (range_with_len 0 count) place) refl (sym (get-map (mark_of stroke) (range_with_len 0 count) place) ∙ is)
   where
-    of_stroke : ℕ → Mark
-    of_stroke index = record { stroke = stroke; index = index }
-
-    by_range : (o : Option ℕ) → slice_get (range_with_len 0 count) place ≡ o → option_map of_stroke o ≡ Some mark → (mark.stroke ≡ stroke) × (mark.index < count)
-    unfolding of_stroke
+    by_range : (o : Option ℕ) → slice_get (range_with_len 0 count) place ≡ o → option_map (mark_of stroke) o ≡ Some mark → (mark.stroke ≡ stroke) × (mark.index < count)
     by_range None at same = cc
     by_range (Some n) at same =
-        let here : Some (of_stroke n) ≡ Some mark = same in
-        let equal : of_stroke n ≡ mark = cc in
+        let here : Some (mark_of stroke n) ≡ Some mark = same in
+        let equal : mark_of stroke n ≡ mark = cc in
         let found = range_get 0 count place n at in
         let index : n ≡ mark.index = ap (λ (m : Mark). m.index) equal in
         (sym (ap (λ (m : Mark). m.stroke) equal), omega (arith, found.0, found.1, index))
