@@ -9,17 +9,17 @@ use Rattle.pad_patch.specs.declared.patch.Patch.{Patch}
 use Rattle.pad_patch.specs.Piece.{end_of, text_after}
 use Rattle.pad_patch.specs.Misfit.{EndsAfter, CanApply}
 use Rattle.pad_patch.proofs.CallerLemmas.{length-text_after}
-use Rattle.pad_merge.specs.Source.{Source, new_unit, kept_from, sources_of, unit_of}
+use Rattle.pad_merge.specs.UnitSource.{UnitSource, new_unit, kept_from, sources_of, unit_of}
 use Rattle.pad_merge.specs.Merge.{CutsNewPair, CutsInserted, CanMerge}
 use Rattle.pad_merge.proofs.Sources.{map-sources_after, map-kept_all}
 
 -- a new unit stands in the text too
-new_stands : (text : List ℕ) (sources : List Source) (index unit : ℕ) → slice_get sources index ≡ Some (new_unit unit) → slice_index (map (unit_of text) sources) index ≡ unit
+new_stands : (text : List ℕ) (sources : List UnitSource) (index unit : ℕ) → slice_get sources index ≡ Some (new_unit unit) → slice_index (map (unit_of text) sources) index ≡ unit
 new_stands text sources index unit is =
     get_or_from_slice_get (map (unit_of text) sources) index unit 0 (slice_get-map (unit_of text) sources index ∙ ap (option_map (unit_of text)) is)
 
 -- a pair of new units is a pair of the text
-cut_of_inserted : (text : List ℕ) (sources : List Source) (place : ℕ) → CutsNewPair sources place → CutsPair (map (unit_of text) sources) place
+cut_of_inserted : (text : List ℕ) (sources : List UnitSource) (place : ℕ) → CutsNewPair sources place → CutsPair (map (unit_of text) sources) place
 cut_of_inserted text sources place cut =
     let before : place - 1 ≡ cut.before = omega (arith, cut.follows) in
     let high = ap (slice_index (map (unit_of text) sources)) before ∙ new_stands text sources cut.before cut.first cut.first_stands in

@@ -12,7 +12,7 @@ use Rattle.pad_patch.specs.Piece.{end_of, length_after, text_after}
 use Rattle.pad_patch.specs.Misfit.{EndsAfter}
 use Rattle.pad_patch.proofs.CallerLemmas.{IsLaid, laid, inside_laid}
 use Rattle.pad_patch.proofs.CallerLemmas.{copy_from, text_after-copy, length-text_after, IsText-text_after}
-use Rattle.pad_merge.specs.Source.{Source, kept_at, new_unit, kept_from, sources_after, sources_of, unit_of, IsAscending}
+use Rattle.pad_merge.specs.UnitSource.{UnitSource, kept_at, new_unit, kept_from, sources_after, sources_of, unit_of, IsAscending}
 use Rattle.pad_merge.specs.CopiedUnit.{new_or_letter}
 use Rattle.pad_merge.specs.Merge.{merged, operations_between, CutsNewPair, CanMerge, IsNormal}
 use Rattle.pad_merge.proofs.Sources.{map-sources_after, length-kept_from, map-kept_all, ascending_kept, ascending_after}
@@ -64,7 +64,7 @@ both_units first second size text is =
     ∙ ap (text_after second) (map-sources_after (unit_of text) first (kept_from 0 size) (λ unit. refl) ∙ ap (text_after first) (map-kept_all text size is))
 
 -- the patch that makes units of these sources
-abbrev pub patch_from : ℕ → List Source → Name → Patch
+abbrev pub patch_from : ℕ → List UnitSource → Name → Patch
 patch_from size sources before = record { ops = operations_between 0 [] size sources; before = before }
 
 -- applying the merge once is applying both in turn
@@ -112,7 +112,7 @@ first_text patch size inserts =
     (λ index (operation, is, cut). elim cut [ inl start ↦ letters_whole size operation.offset start | inr end ↦ letters_whole size (end_of operation) end ]))
 
 -- a unit of a pair is no letter, so it is new
-new_at : (test : ℕ → Bool) (sources : List Source) (index : ℕ) → test 0x61 ≡ false → test 0 ≡ false → test (slice_index (map new_or_letter sources) index) ≡ true
+new_at : (test : ℕ → Bool) (sources : List UnitSource) (index : ℕ) → test 0x61 ≡ false → test 0 ≡ false → test (slice_index (map new_or_letter sources) index) ≡ true
     → (unit : ℕ) × (slice_get sources index ≡ Some (new_unit unit)) × (test unit ≡ true)
 new_at test [] index letter past is = cc
 new_at test (kept_at place ∷ sources) zero letter past is = cc
@@ -120,7 +120,7 @@ new_at test (new_unit unit ∷ sources) zero letter past is = (unit, refl, is)
 new_at test (kept_at place ∷ sources) (suc index) letter past is = new_at test sources index letter past is
 new_at test (new_unit unit ∷ sources) (suc index) letter past is = new_at test sources index letter past is
 
-new_pair : (sources : List Source) (place : ℕ) → CutsPair (map new_or_letter sources) place → CutsNewPair sources place
+new_pair : (sources : List UnitSource) (place : ℕ) → CutsPair (map new_or_letter sources) place → CutsNewPair sources place
 new_pair sources place cut =
     let high = new_at is_high_surrogate sources (place - 1) refl refl cut.high in
     let low = new_at is_low_surrogate sources place refl refl cut.low in

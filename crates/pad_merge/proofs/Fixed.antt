@@ -7,7 +7,7 @@ use Rattle.pad_patch.specs.declared.patch.Patch.{Patch}
 use Rattle.pad_patch.specs.Piece.{end_of, pieces_from}
 use Rattle.pad_patch.specs.Misfit.{EndsAfter}
 use Rattle.pad_patch.proofs.CallerLemmas.{IsLaid}
-use Rattle.pad_merge.specs.Source.{Source, kept_at, new_unit, kept_from, sources_of, sources_after, IsAscending}
+use Rattle.pad_merge.specs.UnitSource.{UnitSource, kept_at, new_unit, kept_from, sources_of, sources_after, IsAscending}
 use Rattle.pad_merge.specs.Merge.{gap, operations_between, merged, CanMerge, IsNormal}
 use Rattle.pad_merge.proofs.Sources.{sources_of_piece, sources-pieces, length-kept_from}
 use Rattle.pad_merge.proofs.Reading.{IsGap, none, one, gap_cases, replacing, laid_between}
@@ -43,7 +43,7 @@ next_copy size at (operation ∷ operations) (starts, inside, rest) =
     (range_kept at (start - at) size (omega arith) ∙ ap (kept_from at) count ∙ ap (λ xs. kept_at at ∷ xs) (sym (range_kept (suc at) (start - suc at) size (omega arith))))
 
 -- the operations that are read off sources make units of these sources
-copy_between : (size place : ℕ) (inserted : List ℕ) (sources : List Source) → IsAscending place size sources
+copy_between : (size place : ℕ) (inserted : List ℕ) (sources : List UnitSource) → IsAscending place size sources
     → copy_of size place (operations_between place inserted size sources) ≡ map new_unit inserted ++ sources
 copy_between size place inserted [] rises =
     let found = gap place size inserted in

@@ -12,7 +12,7 @@ use Rattle.pad_patch.specs.Removed.{Removes, IsKeptFrom, old_places}
 use Rattle.pad_patch.proofs.CallerLemmas.{map-patched, map-map, somes_of, somes-patched, replicate-map, map-const, read_all, get-map, at_has, has_at, Has, has_map, removed_or_kept, kept_not_removed, kept_element, length-patched, same_length, laid, get-range, below_get, new_drawn, patched-drawn, read_drawn, drawn, Drawn}
 use Rattle.pad_merge.specs.declared.origin.Origin.{Origin}
 use Rattle.pad_merge.specs.declared.origin.Origin.TheVariants.{First, Second}
-use Rattle.pad_merge.specs.Source.{Source, kept_at, new_unit, kept_from, sources_of, sources_after}
+use Rattle.pad_merge.specs.UnitSource.{UnitSource, kept_at, new_unit, kept_from, sources_of, sources_after}
 use Rattle.pad_merge.specs.Origin.{numbered, origins_after, origins, named_in}
 use Rattle.pad_merge.specs.Merge.{merged, CanMerge}
 use Rattle.pad_merge.proofs.Sources.{length-kept_from}
@@ -62,7 +62,7 @@ same_labels (inr o ∷ xs) (inr u ∷ ys) kinds found =
     let later : somes_of (map origin_of_label xs) ≡ somes_of (map origin_of_label ys) = cc in
     ap (λ n. inr n ∷ xs) same ∙ ap (λ zs. inr u ∷ zs) (same_labels xs ys rest later)
 
-source_kind : Source → Option ℕ
+source_kind : UnitSource → Option ℕ
 source_kind (kept_at place) = Some place
 source_kind (new_unit unit) = None
 
@@ -79,7 +79,7 @@ kinds_new [] = refl
 kinds_new (unit ∷ units) = ap (λ xs. None ∷ xs) (kinds_new units)
 
 -- the kinds of sources after a patch
-kinds_after : (patch : Patch) (sources : List Source) → map source_kind (sources_after patch sources) ≡ patched patch (replicate (length (inserted patch)) None) (map source_kind sources)
+kinds_after : (patch : Patch) (sources : List UnitSource) → map source_kind (sources_after patch sources) ≡ patched patch (replicate (length (inserted patch)) None) (map source_kind sources)
 kinds_after patch sources =
     map-patched source_kind patch (map new_unit (inserted patch)) sources ∙ ap (λ xs. patched patch xs (map source_kind sources)) (kinds_new (inserted patch))
 

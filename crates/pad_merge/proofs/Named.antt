@@ -11,7 +11,7 @@ use Rattle.pad_patch.specs.declared.patch.Patch.{Patch}
 use Rattle.pad_patch.specs.Piece.{end_of, pieces, pieces_from, insertions, inserted}
 use Rattle.pad_merge.specs.declared.origin.Origin.{Origin}
 use Rattle.pad_merge.specs.declared.origin.Origin.TheVariants.{First, Second}
-use Rattle.pad_merge.specs.Source.{Source, kept_at, new_unit, kept_from, sources_of, sources_after}
+use Rattle.pad_merge.specs.UnitSource.{UnitSource, kept_at, new_unit, kept_from, sources_of, sources_after}
 use Rattle.pad_merge.specs.Origin.{numbered, origins_after, origins, named_unit}
 use Rattle.pad_merge.proofs.Numbers.{origins_of_pieces, origins-pieces}
 use Rattle.pad_merge.specs.Merge.{gap, operations_between, merged}
@@ -19,7 +19,7 @@ use Rattle.pad_merge.proofs.Reading.{none, one, gap_cases}
 use Rattle.pad_merge.proofs.Sources.{sources_of_piece, sources-pieces}
 
 -- each new unit has an origin, which names it, and no kept unit has one
-abbrev Names : (Origin → Option ℕ) → List Source → List (Option Origin) → Type 0
+abbrev Names : (Origin → Option ℕ) → List UnitSource → List (Option Origin) → Type 0
 Names name [] [] = Unit {0}
 Names name [] (origin ∷ found) = ⊥
 Names name (source ∷ sources) [] = ⊥
@@ -28,7 +28,7 @@ Names name (kept_at place ∷ sources) (Some origin ∷ found) = ⊥
 Names name (new_unit unit ∷ sources) (None ∷ found) = ⊥
 Names name (new_unit unit ∷ sources) (Some origin ∷ found) = (name origin ≡ Some unit) × Names name sources found
 
-names_take : (name : Origin → Option ℕ) (count : ℕ) (sources : List Source) (found : List (Option Origin)) → Names name sources found → Names name (take count sources) (take count found)
+names_take : (name : Origin → Option ℕ) (count : ℕ) (sources : List UnitSource) (found : List (Option Origin)) → Names name sources found → Names name (take count sources) (take count found)
 names_take name zero sources found named = tt
 names_take name (suc count) [] [] named = tt
 names_take name (suc count) [] (origin ∷ found) named = absurd named
@@ -38,7 +38,7 @@ names_take name (suc count) (kept_at place ∷ sources) (Some origin ∷ found) 
 names_take name (suc count) (new_unit unit ∷ sources) (None ∷ found) named = absurd named
 names_take name (suc count) (new_unit unit ∷ sources) (Some origin ∷ found) named = (named.0, names_take name count sources found named.1)
 
-names_drop : (name : Origin → Option ℕ) (count : ℕ) (sources : List Source) (found : List (Option Origin)) → Names name sources found → Names name (drop count sources) (drop count found)
+names_drop : (name : Origin → Option ℕ) (count : ℕ) (sources : List UnitSource) (found : List (Option Origin)) → Names name sources found → Names name (drop count sources) (drop count found)
 names_drop name zero sources found named = named
 names_drop name (suc count) [] [] named = tt
 names_drop name (suc count) [] (origin ∷ found) named = absurd named
@@ -48,7 +48,7 @@ names_drop name (suc count) (kept_at place ∷ sources) (Some origin ∷ found) 
 names_drop name (suc count) (new_unit unit ∷ sources) (None ∷ found) named = absurd named
 names_drop name (suc count) (new_unit unit ∷ sources) (Some origin ∷ found) named = names_drop name count sources found named.1
 
-names_append : (name : Origin → Option ℕ) (sources others : List Source) (found later : List (Option Origin)) → Names name sources found → Names name others later → Names name (sources ++ others) (found ++ later)
+names_append : (name : Origin → Option ℕ) (sources others : List UnitSource) (found later : List (Option Origin)) → Names name sources found → Names name others later → Names name (sources ++ others) (found ++ later)
 names_append name [] others [] later named rest = rest
 names_append name [] others (origin ∷ found) later named rest = absurd named
 names_append name (source ∷ sources) others [] later named rest = absurd named
@@ -57,7 +57,7 @@ names_append name (kept_at place ∷ sources) others (Some origin ∷ found) lat
 names_append name (new_unit unit ∷ sources) others (None ∷ found) later named rest = absurd named
 names_append name (new_unit unit ∷ sources) others (Some origin ∷ found) later named rest = (named.0, names_append name sources others found later named.1 rest)
 
-names_length : (name : Origin → Option ℕ) (sources : List Source) (found : List (Option Origin)) → Names name sources found → length sources ≡ length found
+names_length : (name : Origin → Option ℕ) (sources : List UnitSource) (found : List (Option Origin)) → Names name sources found → length sources ≡ length found
 names_length name [] [] named = refl
 names_length name [] (origin ∷ found) named = absurd named
 names_length name (source ∷ sources) [] named = absurd named
@@ -87,7 +87,7 @@ names_numbered name number all front (unit ∷ units) later told whole =
     )
 
 -- and so they do in a copy
-names_copy : (name : Origin → Option ℕ) (number : ℕ → Origin) (all front : List ℕ) (sources : List Source) (found : List (Option Origin)) (place size : ℕ) (operations : List Operation)
+names_copy : (name : Origin → Option ℕ) (number : ℕ → Origin) (all front : List ℕ) (sources : List UnitSource) (found : List (Option Origin)) (place size : ℕ) (operations : List Operation)
     → ((place : ℕ) → name (number place) ≡ slice_get all place) → all ≡ front ++ insertions operations → Names name sources found
     → Names name (flat_map (sources_of_piece sources) (pieces_from place size operations)) (origins_of_pieces number found (length front) (pieces_from place size operations))
 names_copy name number all front sources found place size [] told whole named =
@@ -107,7 +107,7 @@ names_copy name number all front sources found place size (operation ∷ operati
     (names_numbered name number all front units (insertions operations) told whole) later)
 
 -- the origins after a patch name the new units after it
-names_after : (name : Origin → Option ℕ) (number : ℕ → Origin) (patch : Patch) (sources : List Source) (found : List (Option Origin))
+names_after : (name : Origin → Option ℕ) (number : ℕ → Origin) (patch : Patch) (sources : List UnitSource) (found : List (Option Origin))
     → ((place : ℕ) → name (number place) ≡ slice_get (inserted patch) place) → Names name sources found
     → Names name (sources_after patch sources) (origins_after number patch found)
 names_after name number patch sources found told named =
@@ -133,12 +133,12 @@ names_both first second size =
     (names_first first second size)
 
 -- the new units of a copy
-abbrev new_of : List Source → List ℕ
+abbrev new_of : List UnitSource → List ℕ
 new_of [] = []
 new_of (kept_at place ∷ sources) = new_of sources
 new_of (new_unit unit ∷ sources) = unit ∷ new_of sources
 
-names_new : (name : Origin → Option ℕ) (sources : List Source) (found : List (Option Origin)) → Names name sources found → map name (filter_map (λ origin. origin) found) ≡ map Some (new_of sources)
+names_new : (name : Origin → Option ℕ) (sources : List UnitSource) (found : List (Option Origin)) → Names name sources found → map name (filter_map (λ origin. origin) found) ≡ map Some (new_of sources)
 names_new name [] [] named = refl
 names_new name [] (origin ∷ found) named = absurd named
 names_new name (source ∷ sources) [] named = absurd named
@@ -155,7 +155,7 @@ insertions_gap from to units = elim (gap_cases from to units) [
 ]
 
 -- the operations that are read off insert the new units
-insertions_between : (place : ℕ) (units : List ℕ) (size : ℕ) (sources : List Source) → insertions (operations_between place units size sources) ≡ units ++ new_of sources
+insertions_between : (place : ℕ) (units : List ℕ) (size : ℕ) (sources : List UnitSource) → insertions (operations_between place units size sources) ≡ units ++ new_of sources
 insertions_between place units size [] = insertions_gap place size units ∙ sym (append-nil units)
 insertions_between place units size (kept_at at ∷ sources) =
     flat_map-append (λ (operation : Operation). operation.insert) (gap place at units) (operations_between (suc at) [] size sources)

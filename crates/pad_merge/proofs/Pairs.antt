@@ -11,7 +11,7 @@ use Rattle.pad_patch.specs.declared.patch.Patch.{Patch}
 use Rattle.pad_patch.specs.Piece.{end_of, pieces_from, text_after}
 use Rattle.pad_patch.specs.Misfit.{CutsPairAt, CanApply}
 use Rattle.pad_patch.proofs.CallerLemmas.{IsLaid, laid, ordered_laid, inside_laid, range-drop}
-use Rattle.pad_merge.specs.Source.{Source, kept_at, new_unit, kept_from, sources_after, sources_of, unit_of, IsAscending}
+use Rattle.pad_merge.specs.UnitSource.{UnitSource, kept_at, new_unit, kept_from, sources_after, sources_of, unit_of, IsAscending}
 use Rattle.pad_merge.specs.Merge.{gap, operations_between, merged}
 use Rattle.pad_merge.proofs.Sources.{sources_of_piece, sources-pieces, map-sources_after, map-kept_all, length-kept_from}
 use Rattle.pad_merge.proofs.Reading.{none, one, gap_cases, replacing}
@@ -30,19 +30,19 @@ whole_end : (text : List ℕ) (size : ℕ) → length text ≡ size → IsWhole 
 whole_end text size is cut = omega (arith, cut.before_end)
 
 -- pairs of the text stay together, where the place behind the unit in front is `seen`, or 0 where that unit is no unit of the text
-abbrev StayTogether : List ℕ → ℕ → List Source → Type 0
+abbrev StayTogether : List ℕ → ℕ → List UnitSource → Type 0
 StayTogether text seen [] = IsWhole text seen
 StayTogether text seen (kept_at place ∷ sources) = ((seen ≡ place) ⊎ (IsWhole text seen × IsWhole text place)) × StayTogether text (suc place) sources
 StayTogether text seen (new_unit unit ∷ sources) = IsWhole text seen × StayTogether text 0 sources
 
 -- the place behind the last one
-abbrev seen_after : ℕ → List Source → ℕ
+abbrev seen_after : ℕ → List UnitSource → ℕ
 seen_after seen [] = seen
 seen_after seen (kept_at place ∷ sources) = seen_after (suc place) sources
 seen_after seen (new_unit unit ∷ sources) = seen_after 0 sources
 
 -- parts that are cut nowhere, one behind the other
-together_join : (text : List ℕ) (seen : ℕ) (xs ys : List Source) → StayTogether text seen xs → StayTogether text 0 ys → StayTogether text seen (xs ++ ys)
+together_join : (text : List ℕ) (seen : ℕ) (xs ys : List UnitSource) → StayTogether text seen xs → StayTogether text 0 ys → StayTogether text seen (xs ++ ys)
 together_join text seen [] [] first second = first
 together_join text seen [] (kept_at place ∷ ys) first second = elim second.0 [
   | inl same ↦ (inr (first, subst (IsWhole text) same (whole_start text)), second.1)
@@ -53,12 +53,12 @@ together_join text seen (kept_at place ∷ xs) ys first second = (first.0, toget
 together_join text seen (new_unit unit ∷ xs) ys first second = (first.0, together_join text 0 xs ys first.1 second)
 
 -- two parts, where no pair is cut between them
-together_first : (text : List ℕ) (seen : ℕ) (xs ys : List Source) → StayTogether text seen (xs ++ ys) → IsWhole text (seen_after seen xs) → StayTogether text seen xs
+together_first : (text : List ℕ) (seen : ℕ) (xs ys : List UnitSource) → StayTogether text seen (xs ++ ys) → IsWhole text (seen_after seen xs) → StayTogether text seen xs
 together_first text seen [] ys all whole = whole
 together_first text seen (kept_at place ∷ xs) ys all whole = (all.0, together_first text (suc place) xs ys all.1 whole)
 together_first text seen (new_unit unit ∷ xs) ys all whole = (all.0, together_first text 0 xs ys all.1 whole)
 
-together_second : (text : List ℕ) (seen : ℕ) (xs ys : List Source) → StayTogether text seen (xs ++ ys) → IsWhole text (seen_after seen xs) → StayTogether text 0 ys
+together_second : (text : List ℕ) (seen : ℕ) (xs ys : List UnitSource) → StayTogether text seen (xs ++ ys) → IsWhole text (seen_after seen xs) → StayTogether text 0 ys
 together_second text seen [] [] all whole = whole_start text
 together_second text seen [] (kept_at place ∷ ys) all whole = elim all.0 [
   | inl same ↦ (inr (whole_start text, subst (IsWhole text) same whole), all.1)
@@ -99,7 +99,7 @@ kept_pair text seen place units later (behind front last is whole) same cut =
     }
 
 -- where the units are cut in no pair, no pair of the text is cut there
-seam : (text : List ℕ) (seen : ℕ) (units : List ℕ) (xs ys : List Source) → EndsAt text seen units → StayTogether text seen (xs ++ ys)
+seam : (text : List ℕ) (seen : ℕ) (units : List ℕ) (xs ys : List UnitSource) → EndsAt text seen units → StayTogether text seen (xs ++ ys)
     → IsWhole (units ++ map (unit_of text) (xs ++ ys)) (length units + length xs) → IsWhole text (seen_after seen xs)
 seam text seen units [] [] ends all whole = all
 seam text seen units [] (kept_at place ∷ ys) ends all whole = elim all.0 [
@@ -132,11 +132,11 @@ CutNone units [] = Unit {0}
 CutNone units (operation ∷ operations) = IsWhole units operation.offset × IsWhole units (end_of operation) × CutNone units operations
 
 -- the range of sources from one place to a whole one, and what stands behind it
-record Apart (text : List ℕ) (sources : List Source) (from to : ℕ) : Type 0 where
+record Apart (text : List ℕ) (sources : List UnitSource) (from to : ℕ) : Type 0 where
   range : StayTogether text 0 (take (to - from) (drop from sources))
   behind : StayTogether text 0 (drop to sources)
 
-apart_at : (text : List ℕ) (sources : List Source) (from to : ℕ) → from ≤ to → to ≤ length sources → StayTogether text 0 (drop from sources)
+apart_at : (text : List ℕ) (sources : List UnitSource) (from to : ℕ) → from ≤ to → to ≤ length sources → StayTogether text 0 (drop from sources)
     → IsWhole (map (unit_of text) sources) to → Apart text sources from to
 apart_at text sources from to order inside all whole =
     let before = take from sources in
@@ -169,7 +169,7 @@ together_new text [] = whole_start text
 together_new text (unit ∷ units) = (whole_start text, together_new text units)
 
 -- a copy keeps pairs together where its operations cut none
-together_copy : (text : List ℕ) (sources : List Source) (place : ℕ) (operations : List Operation) → IsLaid place (length sources) operations → CutNone (map (unit_of text) sources) operations
+together_copy : (text : List ℕ) (sources : List UnitSource) (place : ℕ) (operations : List Operation) → IsLaid place (length sources) operations → CutNone (map (unit_of text) sources) operations
     → StayTogether text 0 (drop place sources) → StayTogether text 0 (flat_map (sources_of_piece sources) (pieces_from place (length sources) operations))
 together_copy text sources place [] laid_out whole all =
     let rest = drop place sources in
@@ -247,7 +247,7 @@ starts_whole text seen place inserted (begins nothing here) whole_seen = subst (
 starts_whole text seen place inserted (goes_on whole nowhere) whole_seen = whole
 
 -- the operations that are read off cut no pair
-cut_none_between : (text : List ℕ) (seen place : ℕ) (inserted : List ℕ) (sources : List Source) → IsAscending place (length text) sources → IsOpen text seen place inserted → StayTogether text seen sources
+cut_none_between : (text : List ℕ) (seen place : ℕ) (inserted : List ℕ) (sources : List UnitSource) → IsAscending place (length text) sources → IsOpen text seen place inserted → StayTogether text seen sources
     → CutNone text (operations_between place inserted (length text) sources)
 cut_none_between text seen place inserted [] rises is_open together =
     let end : IsWhole text (length text) = whole_end text (length text) refl in

@@ -11,7 +11,7 @@ use Rattle.pad_patch.specs.Piece.{end_of, pieces_from, insertions, inserted}
 use Rattle.pad_patch.proofs.CallerLemmas.{IsLaid, range-append, range-drop}
 use Rattle.pad_merge.specs.declared.origin.Origin.{Origin}
 use Rattle.pad_merge.specs.declared.origin.Origin.TheVariants.{First, Second}
-use Rattle.pad_merge.specs.Source.{Source, kept_at, new_unit, IsAscending}
+use Rattle.pad_merge.specs.UnitSource.{UnitSource, kept_at, new_unit, IsAscending}
 use Rattle.pad_merge.specs.Origin.{numbered, origins_after, origins, first_place, second_place}
 use Rattle.pad_merge.proofs.Numbers.{origins_of_pieces, origins-pieces}
 use Rattle.pad_merge.specs.Merge.{CanMerge}
@@ -210,7 +210,7 @@ seconds_all first second size =
     (subst NoSecond (sym (origins-pieces First first before)) (no_second_copy before 0 0 (length before) first.ops (no_second_none size)))
 
 -- an origin in the first patch as a kept unit, so that what is known of kept units tells how places rise
-abbrev shown : Option Origin → Source
+abbrev shown : Option Origin → UnitSource
 shown None = new_unit 0
 shown (Some (First place)) = kept_at place
 shown (Some (Second place)) = new_unit 0

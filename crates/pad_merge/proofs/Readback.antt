@@ -10,7 +10,7 @@ use Rattle.pad_patch.specs.Piece.{end_of, pieces_from}
 use Rattle.pad_patch.specs.Misfit.{EndsAfter}
 use Rattle.pad_patch.proofs.CallerLemmas.{Inside, StartsFrom, inside_of}
 use Rattle.pad_patch.proofs.CallerLemmas.{same_operation}
-use Rattle.pad_merge.specs.Source.{Source, kept_at, new_unit, kept_from, sources_of, sources_after}
+use Rattle.pad_merge.specs.UnitSource.{UnitSource, kept_at, new_unit, kept_from, sources_of, sources_after}
 use Rattle.pad_merge.specs.Merge.{gap, operations_between, merged, IsNormal}
 use Rattle.pad_merge.proofs.Sources.{sources_of_piece, sources-pieces, length-kept_from}
 use Rattle.pad_merge.proofs.Reading.{IsSpaced, none, one, gap_cases, replacing}
@@ -23,7 +23,7 @@ gap-none place = elim (gap_cases place place []) [
 ]
 
 -- kept units in a row are one range
-pub read_row : (place size from count : ℕ) (inserted : List ℕ) (rest : List Source)
+pub read_row : (place size from count : ℕ) (inserted : List ℕ) (rest : List UnitSource)
     → operations_between place inserted size (kept_from from (suc count) ++ rest) ≡ gap place from inserted ++ operations_between (from + suc count) [] size rest
 read_row place size from zero inserted rest =
     ap (λ n. gap place from inserted ++ operations_between n [] size rest) (sym (add-one from))
@@ -34,7 +34,7 @@ read_row place size from (suc count) inserted rest =
     ∙ ap (λ n. operations_between n [] size rest) there)
 
 -- new units in a row are inserted together
-read_units : (place size : ℕ) (inserted units : List ℕ) (rest : List Source)
+read_units : (place size : ℕ) (inserted units : List ℕ) (rest : List UnitSource)
     → operations_between place inserted size (map new_unit units ++ rest) ≡ operations_between place (inserted ++ units) size rest
 read_units place size inserted [] rest = ap (λ us. operations_between place us size rest) (sym (append-nil inserted))
 read_units place size inserted (unit ∷ units) rest =
@@ -69,7 +69,7 @@ range_kept from count size within =
     ∙ take_kept from count (size - from) (omega arith)
 
 -- the sources of the copy from a place on
-abbrev pub copy_of : ℕ → ℕ → List Operation → List Source
+abbrev pub copy_of : ℕ → ℕ → List Operation → List UnitSource
 copy_of size place operations = flat_map (sources_of_piece (kept_from 0 size)) (pieces_from place size operations)
 
 -- the gap of an operation that is not empty is the operation
@@ -177,7 +177,7 @@ read_normal patch size normal inside =
     ∙ read_all size patch.ops (spaced_normal patch normal) (inside_of patch size inside)
 
 -- the sources after no operation are those before
-sources_after-none : (patch : Patch) (sources : List Source) → patch.ops ≡ [] → sources_after patch sources ≡ sources
+sources_after-none : (patch : Patch) (sources : List UnitSource) → patch.ops ≡ [] → sources_after patch sources ≡ sources
 sources_after-none patch sources none_there =
     sources-pieces patch sources
     ∙ ap (λ os. flat_map (sources_of_piece sources) (pieces_from 0 (length sources) os)) none_there

@@ -13,7 +13,7 @@ use Rattle.pad_patch.specs.Piece.{end_of}
 use Rattle.pad_patch.specs.UnitStore.{between}
 use Rattle.pad_patch.proofs.CallerLemmas.{IsLaid, IsLaid-before}
 use Rattle.pad_patch.proofs.CallerLemmas.{copy_from, copy_from-split}
-use Rattle.pad_merge.specs.Source.{Source, kept_at, new_unit, unit_of, IsAscending}
+use Rattle.pad_merge.specs.UnitSource.{UnitSource, kept_at, new_unit, unit_of, IsAscending}
 use Rattle.pad_merge.specs.CopiedUnit.{new_or_letter}
 use Rattle.pad_merge.specs.Merge.{gap, operations_between, IsNormal}
 use Rattle.pad_merge.proofs.Sources.{ascending_bounds}
@@ -69,7 +69,7 @@ laid_before : (at size : ℕ) (operations : List Operation) → IsLaid (suc at) 
 laid_before at size operations laid_out = IsLaid-before at (suc at) size operations (omega arith) laid_out
 
 -- the operations stand in order
-pub laid_between : (place size : ℕ) (inserted : List ℕ) (sources : List Source) → IsAscending place size sources → IsLaid place size (operations_between place inserted size sources)
+pub laid_between : (place size : ℕ) (inserted : List ℕ) (sources : List UnitSource) → IsAscending place size sources → IsLaid place size (operations_between place inserted size sources)
 laid_between place size inserted [] rises =
     subst (IsLaid place size) (append-nil (gap place size inserted))
     (laid_gap place size size inserted [] (gap place size inserted) (gap_cases place size inserted) rises (omega arith))
@@ -81,7 +81,7 @@ laid_between place size inserted (kept_at at ∷ sources) rises =
 laid_between place size inserted (new_unit unit ∷ sources) rises = laid_between place size (inserted ++ unit ∷ []) sources rises
 
 -- their copy is what the sources stand for
-pub copy_between : (text : List ℕ) (place : ℕ) (inserted : List ℕ) (sources : List Source) → IsAscending place (length text) sources
+pub copy_between : (text : List ℕ) (place : ℕ) (inserted : List ℕ) (sources : List UnitSource) → IsAscending place (length text) sources
     → copy_from text place (operations_between place inserted (length text) sources) ≡ inserted ++ map (unit_of text) sources
 copy_between text place inserted [] rises =
     let found = gap place (length text) inserted in
@@ -124,14 +124,14 @@ text_behind inserted rest text =
     (IsText-drop (inserted ++ 0x61 ∷ rest) place text apart)
 
 -- what is known of the sources that are left, where the next one is kept
-pub record IsKept (inserted : List ℕ) (place size at : ℕ) (left : List Source) : Type 0 where
+pub record IsKept (inserted : List ℕ) (place size at : ℕ) (left : List UnitSource) : Type 0 where
   pub order : place ≤ at
   pub below : at < size
   pub text : IsText inserted
   pub rising : IsAscending (suc at) size left
   pub later : IsText (map new_or_letter left)
 
-pub kept_next : (inserted : List ℕ) (place size at : ℕ) (left all : List Source) → all ≡ kept_at at ∷ left → IsAscending place size all → IsText (inserted ++ map new_or_letter all)
+pub kept_next : (inserted : List ℕ) (place size at : ℕ) (left all : List UnitSource) → all ≡ kept_at at ∷ left → IsAscending place size all → IsText (inserted ++ map new_or_letter all)
     → IsKept inserted place size at left
 kept_next inserted place size at left all is rises text =
     let rising = subst (IsAscending place size) is rises in
@@ -145,7 +145,7 @@ kept_next inserted place size at left all is rises text =
     }
 
 -- the operations where the next source is kept
-pub read_kept : (before after : List Operation) (inserted left_over : List ℕ) (place size at : ℕ) (left all : List Source) → all ≡ kept_at at ∷ left
+pub read_kept : (before after : List Operation) (inserted left_over : List ℕ) (place size at : ℕ) (left all : List UnitSource) → all ≡ kept_at at ∷ left
     → after ≡ before ++ gap place at inserted → left_over ≡ []
     → after ++ operations_between (at + 1) left_over size left ≡ before ++ operations_between place inserted size all
 read_kept before after inserted left_over place size at left all is grown nothing =
@@ -156,14 +156,14 @@ read_kept before after inserted left_over place size at left all is grown nothin
     ∙ ap (λ xs. before ++ operations_between place inserted size xs) (sym is)
 
 -- the operations where the next source is new
-pub read_new : (before : List Operation) (inserted grown : List ℕ) (place size unit : ℕ) (left all : List Source) → all ≡ new_unit unit ∷ left
+pub read_new : (before : List Operation) (inserted grown : List ℕ) (place size unit : ℕ) (left all : List UnitSource) → all ≡ new_unit unit ∷ left
     → grown ≡ inserted ++ unit ∷ []
     → before ++ operations_between place grown size left ≡ before ++ operations_between place inserted size all
 read_new before inserted grown place size unit left all is more =
     ap (λ us. before ++ operations_between place us size left) more
     ∙ ap (λ xs. before ++ operations_between place inserted size xs) (sym is)
 
-pub text_new : (inserted grown : List ℕ) (unit : ℕ) (left all : List Source) → all ≡ new_unit unit ∷ left → grown ≡ inserted ++ unit ∷ []
+pub text_new : (inserted grown : List ℕ) (unit : ℕ) (left all : List UnitSource) → all ≡ new_unit unit ∷ left → grown ≡ inserted ++ unit ∷ []
     → IsText (inserted ++ map new_or_letter all) → IsText (grown ++ map new_or_letter left)
 text_new inserted grown unit left all is more text =
     let same : inserted ++ map new_or_letter all ≡ grown ++ map new_or_letter left =
@@ -190,7 +190,7 @@ spaced_gap from to insert later found (one some is) order spaced =
     rw is (omega arith, some_left from to insert order some, subst (λ n. IsSpaced (suc n) later) (sym (ends from to insert order)) spaced)
 
 -- the operations do not touch, and none is empty
-pub spaced_between : (place size : ℕ) (inserted : List ℕ) (sources : List Source) → IsAscending place size sources → IsSpaced place (operations_between place inserted size sources)
+pub spaced_between : (place size : ℕ) (inserted : List ℕ) (sources : List UnitSource) → IsAscending place size sources → IsSpaced place (operations_between place inserted size sources)
 spaced_between place size inserted [] rises =
     subst (IsSpaced place) (append-nil (gap place size inserted))
     (spaced_gap place size inserted [] (gap place size inserted) (gap_cases place size inserted) rises tt)

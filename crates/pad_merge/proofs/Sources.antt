@@ -7,29 +7,29 @@ use Rattle.pad_patch.specs.declared.operation.Operation.{Operation}
 use Rattle.pad_patch.specs.declared.patch.Patch.{Patch}
 use Rattle.pad_patch.specs.Piece.{Piece, end_of, pieces, pieces_from, inserted, patched, text_after}
 use Rattle.pad_patch.proofs.CallerLemmas.{IsLaid, map-patched, piece_read, patched-read, range-drop}
-use Rattle.pad_merge.specs.Source.{Source, kept_at, new_unit, kept_from, sources_after, unit_of, IsAscending}
+use Rattle.pad_merge.specs.UnitSource.{UnitSource, kept_at, new_unit, kept_from, sources_after, unit_of, IsAscending}
 
 -- a reading of sources as units, which reads a new unit as it is
-abbrev pub ReadsNew : (Source → ℕ) → Type 0
+abbrev pub ReadsNew : (UnitSource → ℕ) → Type 0
 ReadsNew read = (unit : ℕ) → read (new_unit unit) ≡ unit
 
-map-new : (read : Source → ℕ) (units : List ℕ) → ReadsNew read → map read (map new_unit units) ≡ units
+map-new : (read : UnitSource → ℕ) (units : List ℕ) → ReadsNew read → map read (map new_unit units) ≡ units
 map-new read [] new = refl
 map-new read (unit ∷ units) new = ap (λ u. u ∷ map read (map new_unit units)) (new unit) ∙ ap (λ us. unit ∷ us) (map-new read units new)
 
 -- reading the sources after a patch is applying it to what they are read as
-pub map-sources_after : (read : Source → ℕ) (patch : Patch) (sources : List Source) → ReadsNew read
+pub map-sources_after : (read : UnitSource → ℕ) (patch : Patch) (sources : List UnitSource) → ReadsNew read
     → map read (sources_after patch sources) ≡ text_after patch (map read sources)
 unfolding text_after
 map-sources_after read patch sources new =
     map-patched read patch (map new_unit (inserted patch)) sources ∙ ap (λ us. patched patch us (map read sources)) (map-new read (inserted patch) new)
 
 -- the sources of a piece of the copy of units that have these sources
-abbrev pub sources_of_piece : List Source → Piece → List Source
+abbrev pub sources_of_piece : List UnitSource → Piece → List UnitSource
 sources_of_piece sources = piece_read new_unit sources
 
 -- the sources after a patch, piece by piece
-pub sources-pieces : (patch : Patch) (sources : List Source) → sources_after patch sources ≡ flat_map (sources_of_piece sources) (pieces patch (length sources))
+pub sources-pieces : (patch : Patch) (sources : List UnitSource) → sources_after patch sources ≡ flat_map (sources_of_piece sources) (pieces patch (length sources))
 sources-pieces patch sources = patched-read new_unit sources 0 (length sources) patch.ops
 
 pub length-kept_from : (place count : ℕ) → length (kept_from place count) ≡ count
@@ -48,28 +48,28 @@ map-kept_from text place (suc count) within =
 pub map-kept_all : (text : List ℕ) (size : ℕ) → length text ≡ size → map (unit_of text) (kept_from 0 size) ≡ text
 map-kept_all text size is = map-kept_from text 0 size (omega arith) ∙ take_all size text (omega arith)
 
-pub ascending_bounds : (low high : ℕ) (sources : List Source) → IsAscending low high sources → low ≤ high
+pub ascending_bounds : (low high : ℕ) (sources : List UnitSource) → IsAscending low high sources → low ≤ high
 ascending_bounds low high [] rises = rises
 ascending_bounds low high (kept_at at ∷ sources) rises = let above = ascending_bounds (suc at) high sources rises.1 in omega (arith, above, rises.0)
 ascending_bounds low high (new_unit unit ∷ sources) rises = ascending_bounds low high sources rises
 
-pub ascending_lower : (low lower high : ℕ) (sources : List Source) → lower ≤ low → IsAscending low high sources → IsAscending lower high sources
+pub ascending_lower : (low lower high : ℕ) (sources : List UnitSource) → lower ≤ low → IsAscending low high sources → IsAscending lower high sources
 ascending_lower low lower high [] order rises = omega arith
 ascending_lower low lower high (kept_at at ∷ sources) order rises = (omega (arith, rises.0), rises.1)
 ascending_lower low lower high (new_unit unit ∷ sources) order rises = ascending_lower low lower high sources order rises
 
-pub ascending_append : (low middle high : ℕ) (xs ys : List Source) → IsAscending low middle xs → IsAscending middle high ys → IsAscending low high (xs ++ ys)
+pub ascending_append : (low middle high : ℕ) (xs ys : List UnitSource) → IsAscending low middle xs → IsAscending middle high ys → IsAscending low high (xs ++ ys)
 ascending_append low middle high [] ys first second = ascending_lower middle low high ys first second
 ascending_append low middle high (kept_at at ∷ xs) ys first second = (first.0, ascending_append (suc at) middle high xs ys first.1 second)
 ascending_append low middle high (new_unit unit ∷ xs) ys first second = ascending_append low middle high xs ys first second
 
 -- a place between two parts of sources
-pub record IsBetween (low high : ℕ) (xs ys : List Source) : Type 0 where
+pub record IsBetween (low high : ℕ) (xs ys : List UnitSource) : Type 0 where
   pub middle : ℕ
   pub first : IsAscending low middle xs
   pub second : IsAscending middle high ys
 
-pub ascending_split : (low high : ℕ) (xs ys : List Source) → IsAscending low high (xs ++ ys) → IsBetween low high xs ys
+pub ascending_split : (low high : ℕ) (xs ys : List UnitSource) → IsAscending low high (xs ++ ys) → IsBetween low high xs ys
 ascending_split low high [] ys rises = record { middle = low; first = omega arith; second = rises }
 ascending_split low high (kept_at at ∷ xs) ys rises =
     let rest = ascending_split (suc at) high xs ys rises.1 in
@@ -89,7 +89,7 @@ ascending_kept place (suc count) =
     (omega arith, subst (λ n. IsAscending (suc place) n (kept_from (suc place) count)) same (ascending_kept (suc place) count))
 
 -- a copy of rising sources rises
-ascending_from : (sources : List Source) (low high place : ℕ) (operations : List Operation) → IsLaid place (length sources) operations → IsAscending low high (drop place sources)
+ascending_from : (sources : List UnitSource) (low high place : ℕ) (operations : List Operation) → IsLaid place (length sources) operations → IsAscending low high (drop place sources)
     → IsAscending low high (flat_map (sources_of_piece sources) (pieces_from place (length sources) operations))
 ascending_from sources low high place [] laid_out rises =
     subst (IsAscending low high)
@@ -109,7 +109,7 @@ ascending_from sources low high place (operation ∷ operations) (starts, inside
     head.first
     (ascending_append head.middle head.middle high (map new_unit operation.insert) (flat_map (sources_of_piece sources) (pieces_from end (length sources) operations)) (ascending_new head.middle operation.insert) later)
 
-pub ascending_after : (patch : Patch) (sources : List Source) (low high : ℕ) → IsLaid 0 (length sources) patch.ops → IsAscending low high sources → IsAscending low high (sources_after patch sources)
+pub ascending_after : (patch : Patch) (sources : List UnitSource) (low high : ℕ) → IsLaid 0 (length sources) patch.ops → IsAscending low high sources → IsAscending low high (sources_after patch sources)
 ascending_after patch sources low high laid_out rises =
     subst (IsAscending low high) (sym (sources-pieces patch sources)) (ascending_from sources low high 0 patch.ops laid_out rises)
 
@@ -135,7 +135,7 @@ drop-read items index past item within is =
     drop-cons items index past within ∙ ap (λ x. x ∷ drop (suc index) items) is ∙ ap (λ n. item ∷ drop n items) (sym (add-one index))
 
 -- one more operation of a copy of sources
-pub copied_next : (sources : List Source) (place start end : ℕ) (operation : Operation) (later all : List Operation) (units : List ℕ) (before middle after : List Source)
+pub copied_next : (sources : List UnitSource) (place start end : ℕ) (operation : Operation) (later all : List Operation) (units : List ℕ) (before middle after : List UnitSource)
     → all ≡ operation ∷ later → start ≡ operation.offset → end ≡ end_of operation → units ≡ operation.insert
     → middle ≡ before ++ take (start - place) (drop place sources) → after ≡ middle ++ map new_unit units
     → after ++ flat_map (sources_of_piece sources) (pieces_from end (length sources) later) ≡ before ++ flat_map (sources_of_piece sources) (pieces_from place (length sources) all)

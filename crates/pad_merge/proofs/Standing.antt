@@ -6,12 +6,12 @@ use Rattle.std.specs.Option.{option_map}
 use Rattle.std.proofs.lemmas.List.{append-nil, length-map}
 use Rattle.std.proofs.lemmas.Bool.{cases_lt}
 use Rattle.std.proofs.lemmas.Option.{slice_get-get_or, get_or_from_slice_get}
-use Rattle.pad_patch.specs.Misfit.{IsOperation, IsLeast, Overlaps, EndsAfter}
+use Rattle.pad_patch.specs.Misfit.{HasOperation, IsLeast, Overlaps, EndsAfter}
 use Rattle.pad_patch.specs.declared.operation.Operation.{Operation}
 use Rattle.pad_patch.specs.declared.patch.Patch.{Patch}
 use Rattle.pad_patch.specs.Piece.{end_of, pieces_from, length_after}
 use Rattle.pad_patch.proofs.CallerLemmas.{get-map, get_below, below_get}
-use Rattle.pad_merge.specs.Source.{Source, kept_at, new_unit, kept_from, sources_of}
+use Rattle.pad_merge.specs.UnitSource.{UnitSource, kept_at, new_unit, kept_from, sources_of}
 use Rattle.pad_merge.specs.Inside.Meeting.{new_of, MeetsFirst}
 use Rattle.pad_merge.specs.Merge.{CanMerge, IsTurned, AreTurned}
 use Rattle.pad_merge.proofs.Both.{length-sources_of}
@@ -130,7 +130,7 @@ meets_all first second size can k d below =
 pub of_meeting : (first second : Patch) (size : ℕ) → ((index : ℕ) → ¬ (Overlaps first index)) → ((index : ℕ) → ¬ (EndsAfter first size index)) → ((index : ℕ) → ¬ (Overlaps second index))
     → All (MeetsFirst first size) second.ops → CanMerge first second size
 of_meeting first second size ordered inside second_ordered all =
-    let meets : (index : ℕ) (operation : Operation) → IsOperation second index operation → MeetsFirst first size operation = λ index operation is.
+    let meets : (index : ℕ) (operation : Operation) → HasOperation second index operation → MeetsFirst first size operation = λ index operation is.
     subst (MeetsFirst first size) (get_or_from_slice_get second.ops index operation operation is) (all index operation (below_get operation second.ops index is)) in
     record {
       first_ordered = ordered;
@@ -150,7 +150,7 @@ stands_within patch size place at inside next = (
       ap (λ o. is_some (option_map new_of o)) found.1,
 )
   where
-    there : (o : Option Source) → slice_get (sources_of patch size) place ≡ o → is_some (option_map new_of o) ≡ true → place < length (sources_of patch size)
+    there : (o : Option UnitSource) → slice_get (sources_of patch size) place ≡ o → is_some (option_map new_of o) ≡ true → place < length (sources_of patch size)
     there None same is = cc
     there (Some source) same is = below_get source (sources_of patch size) place same
 

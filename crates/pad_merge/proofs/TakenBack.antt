@@ -7,10 +7,10 @@ use Rattle.pad_patch.specs.declared.operation.Operation.{Operation}
 use Rattle.pad_patch.specs.declared.patch.Patch.{Patch}
 use Rattle.pad_patch.specs.Piece.{end_of, pieces_from}
 use Rattle.pad_patch.specs.UnitStore.{between}
-use Rattle.pad_patch.specs.Misfit.{IsOperation, Overlaps, EndsAfter}
+use Rattle.pad_patch.specs.Misfit.{HasOperation, Overlaps, EndsAfter}
 use Rattle.pad_patch.specs.Inverse.{inverse, inverse_operations}
 use Rattle.pad_patch.proofs.CallerLemmas.{IsLaid, laid}
-use Rattle.pad_merge.specs.Source.{Source, kept_at, new_unit, kept_from, sources_of}
+use Rattle.pad_merge.specs.UnitSource.{UnitSource, kept_at, new_unit, kept_from, sources_of}
 use Rattle.pad_merge.specs.Merge.{operations_between, merged}
 use Rattle.pad_merge.proofs.Sources.{sources_of_piece, sources-pieces, length-kept_from}
 use Rattle.pad_merge.proofs.Readback.{copy_of, range_kept, gap-none, read_row}
@@ -33,7 +33,7 @@ abbrev KeepsAll : List Operation → Type 0
 KeepsAll operations = (index : ℕ) (operation : Operation) → slice_get operations index ≡ Some operation → operation.remove ≡ 0
 
 -- the inverse of insertions keeps the text from a place on
-kept_back : (size : ℕ) (text : List ℕ) (sources front : List Source) (inserted removed place : ℕ) (operations : List Operation)
+kept_back : (size : ℕ) (text : List ℕ) (sources front : List UnitSource) (inserted removed place : ℕ) (operations : List Operation)
     → removed ≡ 0 → IsLaid place size operations → KeepsAll operations → sources ≡ front ++ copy_of size place operations → length front ≡ place + inserted - removed
     → flat_map (sources_of_piece sources) (pieces_from (place + inserted - removed) (length sources) (inverse_operations inserted removed text operations)) ≡ kept_from place (size - place)
 kept_back size text sources front inserted removed place [] none laid_out keeps whole at =
@@ -96,7 +96,7 @@ no_gaps (suc count) =
     ∙ gap-none (suc count)
 
 pub merged-inverse : (patch : Patch) (text : List ℕ) → ((index : ℕ) → ¬ (Overlaps patch index)) → ((index : ℕ) → ¬ (EndsAfter patch (length text) index))
-    → ((index : ℕ) (operation : Operation) → IsOperation patch index operation → operation.remove ≡ 0)
+    → ((index : ℕ) (operation : Operation) → HasOperation patch index operation → operation.remove ≡ 0)
     → (merged patch (inverse patch text) (length text)).ops ≡ []
 unfolding merged inverse
 merged-inverse patch text ordered inside keeps =

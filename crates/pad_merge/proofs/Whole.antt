@@ -6,7 +6,7 @@ use Rattle.std.proofs.lemmas.List.Elements.{All-nil, All-cons, All-append}
 use Rattle.pad_text.specs.Text.{IsText}
 use Rattle.pad_patch.specs.declared.operation.Operation.{Operation}
 use Rattle.pad_patch.specs.declared.patch.Patch.{Patch}
-use Rattle.pad_merge.specs.Source.{Source, kept_at, new_unit, IsAscending, sources_of, sources_after}
+use Rattle.pad_merge.specs.UnitSource.{UnitSource, kept_at, new_unit, IsAscending, sources_of, sources_after}
 use Rattle.pad_merge.specs.CopiedUnit.{new_or_letter}
 use Rattle.pad_merge.specs.Merge.{gap, operations_between, merged, CanMerge}
 use Rattle.pad_merge.proofs.Reading.{none, one, gap_cases, kept_next}
@@ -21,7 +21,7 @@ gap_text from to units text = elim (gap_cases from to units) [
   | one some is ↦ subst (All InsertsText) (sym is) (All-cons InsertsText _ [] text (All-nil InsertsText))
 ]
 
-between_texts : (place size : ℕ) (units : List ℕ) (sources : List Source) → IsAscending place size sources → IsText (units ++ map new_or_letter sources) → All InsertsText (operations_between place units size sources)
+between_texts : (place size : ℕ) (units : List ℕ) (sources : List UnitSource) → IsAscending place size sources → IsText (units ++ map new_or_letter sources) → All InsertsText (operations_between place units size sources)
 between_texts place size units [] rises text = gap_text place size units (subst IsText (append-nil units) text)
 between_texts place size units (kept_at at ∷ sources) rises text =
     let known = kept_next units place size at sources (kept_at at ∷ sources) refl rises text in

@@ -7,11 +7,11 @@ use Rattle.pad_patch.specs.declared.operation.Operation.{Operation}
 use Rattle.pad_patch.specs.declared.patch.Patch.{Patch}
 use Rattle.pad_patch.specs.Piece.{text_after, inserted, patched}
 use Rattle.pad_patch.specs.Removed.{Removes, IsKeptFrom}
-use Rattle.pad_patch.specs.Misfit.{IsOperation, Overlaps, EndsAfter, CanApply}
+use Rattle.pad_patch.specs.Misfit.{HasOperation, Overlaps, EndsAfter, CanApply}
 use Rattle.pad_patch.specs.Inverse.{inverse}
 use Rattle.pad_merge.specs.declared.origin.Origin.{Origin}
 use Rattle.pad_merge.specs.declared.origin.Origin.TheVariants.{First, Second}
-use Rattle.pad_merge.specs.Source.{sources_of, sources_after}
+use Rattle.pad_merge.specs.UnitSource.{sources_of, sources_after}
 use Rattle.pad_merge.specs.Origin.{origins, named_unit, named_in, first_place, second_place}
 use Rattle.pad_merge.specs.Merge.{merged, CanMerge, IsNormal}
 
@@ -50,7 +50,7 @@ EmptySecond =
 abbrev pub InsertionsTakenBack : Type 0
 InsertionsTakenBack =
     (patch : Patch) (text : List ℕ) → ((index : ℕ) → ¬ (Overlaps patch index)) → ((index : ℕ) → ¬ (EndsAfter patch (length text) index))
-    → ((index : ℕ) (operation : Operation) → IsOperation patch index operation → operation.remove ≡ 0)
+    → ((index : ℕ) (operation : Operation) → HasOperation patch index operation → operation.remove ≡ 0)
     → (merged patch (inverse patch text) (length text)).ops ≡ []
 
 -- a patch in normal form is in order

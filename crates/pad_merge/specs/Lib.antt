@@ -1,4 +1,4 @@
-pub mod Source
+pub mod UnitSource
 pub mod Origin
 pub mod CopiedUnit
 pub mod Merge

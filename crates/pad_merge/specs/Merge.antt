@@ -4,8 +4,8 @@ use Rattle.std.specs.Char.Utf16.{is_high_surrogate, is_low_surrogate}
 use Rattle.pad_patch.specs.declared.operation.Operation.{Operation}
 use Rattle.pad_patch.specs.declared.patch.Patch.{Patch}
 use Rattle.pad_patch.specs.Piece.{end_of, length_after}
-use Rattle.pad_patch.specs.Misfit.{IsOperation, Overlaps, EndsAfter}
-use Rattle.pad_merge.specs.Source.{Source, kept_at, new_unit, sources_of, sources_after}
+use Rattle.pad_patch.specs.Misfit.{HasOperation, Overlaps, EndsAfter}
+use Rattle.pad_merge.specs.UnitSource.{UnitSource, kept_at, new_unit, sources_of, sources_after}
 
 -- the operation that puts new units in place of those from one place to another; none where both are none
 abbrev pub gap : ℕ → ℕ → List ℕ → List Operation
@@ -14,7 +14,7 @@ gap from to (unit ∷ units) = record { offset = from; remove = to - from; inser
 
 -- one operation for each gap between kept units that do not continue each other,
 -- where `place` is behind the last kept unit, and so many units were new since
-abbrev pub operations_between : ℕ → List ℕ → ℕ → List Source → List Operation
+abbrev pub operations_between : ℕ → List ℕ → ℕ → List UnitSource → List Operation
 operations_between place inserted size [] = gap place size inserted
 operations_between place inserted size (kept_at at ∷ sources) = gap place at inserted ++ operations_between (suc at) [] size sources
 operations_between place inserted size (new_unit unit ∷ sources) = operations_between place (inserted ++ unit ∷ []) size sources
@@ -25,11 +25,11 @@ merged first second size = record { ops = operations_between 0 [] size (sources_
 
 -- a patch is in normal form: no two operations touch, and none is empty
 pub record IsNormal (patch : Patch) : Type 0 where
-  pub untouched : (index : ℕ) (earlier later : Operation) → IsOperation patch index earlier → IsOperation patch (index + 1) later → end_of earlier < later.offset
-  pub needed : (index : ℕ) (operation : Operation) → IsOperation patch index operation → (0 < operation.remove) ⊎ (0 < length operation.insert)
+  pub untouched : (index : ℕ) (earlier later : Operation) → HasOperation patch index earlier → HasOperation patch (index + 1) later → end_of earlier < later.offset
+  pub needed : (index : ℕ) (operation : Operation) → HasOperation patch index operation → (0 < operation.remove) ⊎ (0 < length operation.insert)
 
 -- the place stands between two new units that are a pair
-pub record CutsNewPair (sources : List Source) (place : ℕ) : Type 0 where
+pub record CutsNewPair (sources : List UnitSource) (place : ℕ) : Type 0 where
   pub before : ℕ
   pub follows : place ≡ before + 1
   pub first : ℕ
@@ -49,8 +49,8 @@ pub record CanMerge (first second : Patch) (size : ℕ) : Type 0 where
   pub first_inside : (index : ℕ) → ¬ (EndsAfter first size index)
   pub second_ordered : (index : ℕ) → ¬ (Overlaps second index)
   pub second_inside : (index : ℕ) → ¬ (EndsAfter second (length_after first size) index)
-  pub starts_whole : (index : ℕ) (operation : Operation) → IsOperation second index operation → ¬ (CutsInserted first size operation.offset)
-  pub ends_whole : (index : ℕ) (operation : Operation) → IsOperation second index operation → ¬ (CutsInserted first size (end_of operation))
+  pub starts_whole : (index : ℕ) (operation : Operation) → HasOperation second index operation → ¬ (CutsInserted first size operation.offset)
+  pub ends_whole : (index : ℕ) (operation : Operation) → HasOperation second index operation → ¬ (CutsInserted first size (end_of operation))
 
 -- an operation has the range of the one that takes another back, where those before it have inserted and removed so many
 -- units: it stands there, removes as many units as the other inserts, and inserts as many as it removes

@@ -2,7 +2,7 @@ ghost use Rattle.std.specs.Prelude.{◌≡◌, ◌↔◌, ℕ, ◌+◌, ◌<◌,
 ghost use Rattle.std.specs.Option.{option_map};
 ghost use Rattle.pad_patch.specs.Misfit.{Overlaps, EndsAfter};
 ghost use Rattle.pad_patch.specs.Piece.{end_of, length_after};
-ghost use Rattle.pad_merge.specs.Source.{sources_of};
+ghost use Rattle.pad_merge.specs.UnitSource.{sources_of};
 ghost use Rattle.pad_merge.specs.Merge.{CanMerge, CanMergeBack, CutsInserted, IsTurned, AreTurned};
 ghost use Rattle.pad_merge.specs.Inside.Meeting.{new_of, MeetsFirst};
 

@@ -17,8 +17,8 @@ pub mod laws;
 mod merging;
 mod origin;
 mod origins;
+mod side;
 mod sourced;
-mod turn;
 
 pub use checking::{can_merge, can_merge_back};
 pub use merging::{merge, merge_from};

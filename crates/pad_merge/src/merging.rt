@@ -3,7 +3,7 @@ ghost use Rattle.std.specs.List.{filter_map};
 ghost use Rattle.pad_text.specs.Text.{IsText};
 ghost use Rattle.pad_patch.specs.Piece.{text_after};
 ghost use Rattle.pad_patch.specs.Misfit.{Overlaps, EndsAfter};
-ghost use Rattle.pad_merge.specs.Source.{new_unit, kept_from, sources_of, sources_after, IsAscending};
+ghost use Rattle.pad_merge.specs.UnitSource.{new_unit, kept_from, sources_of, sources_after, IsAscending};
 ghost use Rattle.pad_merge.specs.Origin.{numbered, origins_after, origins};
 ghost use Rattle.pad_merge.specs.CopiedUnit.{source_of, origin_of, origin_in, new_or_letter};
 ghost use Rattle.pad_merge.specs.Merge.{merged, CanMerge, IsNormal, operations_between};
@@ -13,8 +13,8 @@ use crate::copied_unit::CopiedUnit;
 use crate::gaps::Gaps;
 use crate::origin::Origin;
 use crate::origins::Origins;
+use crate::side::Side;
 use crate::sourced::Sourced;
-use crate::turn::Turn;
 use pad_patch::{Operations, Patch};
 use pad_text::Name;
 use std::alloc::{AllocError, Global};
@@ -63,8 +63,8 @@ fn copied_twice(
     ensures text { IfOk result (λ units. IsText (map new_or_letter (map source_of units.items))) }
 {
     let before = kept(alloc, len)?;
-    let between = copied(alloc, p, before.as_slice(), Turn::Earlier)?;
-    let after = copied(alloc, q, between.as_slice(), Turn::Later)?;
+    let between = copied(alloc, p, before.as_slice(), Side::Earlier)?;
+    let after = copied(alloc, q, between.as_slice(), Side::Later)?;
     Ok(after)
 }
 
@@ -86,12 +86,12 @@ fn copied(
     alloc: Global,
     patch: &Patch,
     units: &[CopiedUnit],
-    turn: Turn,
+    side: Side,
 ) -> Result<Vec<CopiedUnit>, AllocError>
     requires ordered { (index : ℕ) → ¬ (Overlaps patch.now index) }
     requires inside { (index : ℕ) → ¬ (EndsAfter patch.now (length units.now) index) }
     ensures sources { IfOk result (λ copy. map source_of copy.items ≡ sources_after patch.now (map source_of units.now)) }
-    ensures origins { IfOk result (λ copy. map origin_of copy.items ≡ origins_after (origin_in turn) patch.now (map origin_of units.now)) }
+    ensures origins { IfOk result (λ copy. map origin_of copy.items ≡ origins_after (origin_in side) patch.now (map origin_of units.now)) }
     ensures texts { OnOk result (All (λ operation. IsText operation.insert) patch.now.ops) }
 {
     let mut copy = Vec::new(alloc);
@@ -99,7 +99,7 @@ fn copied(
     let mut inserted = 0;
     for op in patch.ops.as_slice() {
         copy.extend_from_slice(&units[place..op.start()])?;
-        push_new(&mut copy, op.insert.as_units(), turn, inserted)?;
+        push_new(&mut copy, op.insert.as_units(), side, inserted)?;
         inserted += op.insert.len();
         place = op.end();
     }
@@ -111,15 +111,15 @@ fn copied(
 fn push_new(
     copy: &mut Vec<CopiedUnit>,
     units: &[u16],
-    turn: Turn,
+    side: Side,
     inserted: usize,
 ) -> Result<(), AllocError>
     requires { inserted ≤ length copy.old.items }
     ensures sources { OnOk result (map source_of copy.new.items ≡ map source_of copy.old.items ++ map new_unit units.now) }
-    ensures origins { OnOk result (map origin_of copy.new.items ≡ map origin_of copy.old.items ++ numbered (origin_in turn) inserted (length units.now)) }
+    ensures origins { OnOk result (map origin_of copy.new.items ≡ map origin_of copy.old.items ++ numbered (origin_in side) inserted (length units.now)) }
 {
     for (index, unit) in units.iter().enumerate() {
-        let origin = turn.origin((inserted + index) as u64);
+        let origin = side.origin((inserted + index) as u64);
         copy.push(CopiedUnit::New(*unit, origin))?;
     }
     Ok(())

@@ -9,12 +9,9 @@ use crate::reading::message_from;
 use crate::writing::message_value;
 use pad_edge::Wire;
 use pad_json::read_plain;
-use pad_patch::Patch;
+use pad_patch::{LONGEST_TEXT, Patch};
 use pad_text::{Name, Text};
 use std::alloc::{AllocError, Global};
-
-/// The longest text of a base, in units.
-const LONGEST_TEXT: usize = 262_144;
 
 /// One link of a chain.
 #[derive(Debug, Drop)]

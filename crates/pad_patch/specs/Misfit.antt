@@ -14,22 +14,22 @@ abbrev pub longest_text : ℕ
 longest_text = LONGEST_TEXT
 
 -- the operation at this index
-abbrev pub IsOperation : Patch → ℕ → Operation → Type 0
-IsOperation patch index operation = slice_get patch.ops index ≡ Some operation
+abbrev pub HasOperation : Patch → ℕ → Operation → Type 0
+HasOperation patch index operation = slice_get patch.ops index ≡ Some operation
 
 -- the operation at this index starts before the one before it ends
 abbrev pub Overlaps : Patch → ℕ → Type 0
 Overlaps patch index =
-    (earlier later : Operation) × (before : ℕ) × (index ≡ before + 1) × IsOperation patch before earlier × IsOperation patch index later × (later.offset < end_of earlier)
+    (earlier later : Operation) × (before : ℕ) × (index ≡ before + 1) × HasOperation patch before earlier × HasOperation patch index later × (later.offset < end_of earlier)
 
 -- the operation at this index ends after a text of `size` units
 abbrev pub EndsAfter : Patch → ℕ → ℕ → Type 0
-EndsAfter patch size index = (operation : Operation) × IsOperation patch index operation × (size < end_of operation)
+EndsAfter patch size index = (operation : Operation) × HasOperation patch index operation × (size < end_of operation)
 
 -- the start or the end of the operation at this index cuts a pair
 abbrev pub CutsPairAt : Patch → List ℕ → ℕ → Type 0
 CutsPairAt patch text index =
-    (operation : Operation) × IsOperation patch index operation × (CutsPair text operation.offset ⊎ CutsPair text (end_of operation))
+    (operation : Operation) × HasOperation patch index operation × (CutsPair text operation.offset ⊎ CutsPair text (end_of operation))
 
 -- what a misfit says of a patch and a text
 abbrev pub IsMisfit : Patch → List ℕ → Misfit → Type 0

@@ -4,11 +4,11 @@ use Rattle.std.specs.List.{range_with_len}
 use Rattle.pad_patch.specs.declared.operation.Operation.{Operation}
 use Rattle.pad_patch.specs.declared.patch.Patch.{Patch}
 use Rattle.pad_patch.specs.Piece.{end_of, inserted, patched}
-use Rattle.pad_patch.specs.Misfit.{IsOperation}
+use Rattle.pad_patch.specs.Misfit.{HasOperation}
 
 -- an operation of the patch removes the unit at this place
 abbrev pub Removes : Patch → ℕ → Type 0
-Removes patch place = (index : ℕ) × (operation : Operation) × IsOperation patch index operation × (operation.offset ≤ place) × (place < end_of operation)
+Removes patch place = (index : ℕ) × (operation : Operation) × HasOperation patch index operation × (operation.offset ≤ place) × (place < end_of operation)
 
 -- where each unit of the text after a patch stood in the text before, which has `size` units; a new one stood nowhere
 abbrev pub old_places : Patch → ℕ → List (Option ℕ)

@@ -12,7 +12,7 @@ use Rattle.pad_patch.specs.Piece.{end_of, pieces_from, patched_pieces, patched, 
 use Rattle.pad_patch.specs.Inverse.{inverse, inverse_operations}
 use Rattle.pad_patch.specs.Misfit.{Overlaps, EndsAfter, CanApply}
 use Rattle.pad_patch.proofs.CallerLemmas.{IsLaid, laid, IsLaid-before, map-patched, map-map, map-const, get-map, get_below, below_get, length-text_after, text_after-inverse, CanApply-inverse_all}
-use Rattle.pad_merge.specs.Source.{Source, kept_at, new_unit, kept_from, sources_of, unit_of}
+use Rattle.pad_merge.specs.UnitSource.{UnitSource, kept_at, new_unit, kept_from, sources_of, unit_of}
 use Rattle.pad_merge.specs.CopiedUnit.{new_or_letter}
 use Rattle.pad_merge.specs.Merge.{CutsNewPair, CutsInserted, CanMerge, IsTurned, AreTurned, CanMergeBack}
 use Rattle.pad_merge.proofs.CallerLemmas.{CanMerge-CanApply, first_text, map-sources_after, map-kept_all}
@@ -93,7 +93,7 @@ alike_at (first ∷ operations) (other ∷ others) (suc index) operation (starts
     record { other = found.other; stands = found.stands; starts = found.starts; ends = found.ends }
 
 -- which units of a copy are kept, and from where
-abbrev kind_of : Source → Option ℕ
+abbrev kind_of : UnitSource → Option ℕ
 kind_of (kept_at place) = Some place
 kind_of (new_unit unit) = None
 
@@ -107,7 +107,7 @@ same_kinds first second size same =
     ∙ ap (λ xs. patched second xs kinds) (sym (map-map kind_of new_unit (inserted second)))
     ∙ sym (map-patched kind_of second (map new_unit (inserted second)) old)
 
-kept_there : (o : Option Source) (place : ℕ) → option_map kind_of o ≡ Some (Some place) → o ≡ Some (kept_at place)
+kept_there : (o : Option UnitSource) (place : ℕ) → option_map kind_of o ≡ Some (Some place) → o ≡ Some (kept_at place)
 kept_there None place is = cc
 kept_there (Some (kept_at own)) place is = let same : own ≡ place = cc in ap (λ n. Some (kept_at n)) same
 kept_there (Some (new_unit unit)) place is = let never : None ≡ Some place = cc in cc
@@ -116,7 +116,7 @@ kept_there (Some (new_unit unit)) place is = let never : None ≡ Some place = c
 units_read : (patch : Patch) (text : List ℕ) → map (unit_of text) (sources_of patch (length text)) ≡ text_after patch text
 units_read patch text = map-sources_after (unit_of text) patch (kept_from 0 (length text)) (λ unit. refl) ∙ ap (text_after patch) (map-kept_all text (length text) refl)
 
-read_at : (patch : Patch) (text : List ℕ) (at : ℕ) (source : Source) → slice_get (sources_of patch (length text)) at ≡ Some source → slice_get (text_after patch text) at ≡ Some (unit_of text source)
+read_at : (patch : Patch) (text : List ℕ) (at : ℕ) (source : UnitSource) → slice_get (sources_of patch (length text)) at ≡ Some source → slice_get (text_after patch text) at ≡ Some (unit_of text source)
 read_at patch text at source is =
     ap (λ us. slice_get us at) (sym (units_read patch text)) ∙ get-map (unit_of text) (sources_of patch (length text)) at ∙ ap (option_map (unit_of text)) is
 
@@ -128,7 +128,7 @@ module _ (first second : Patch) (before : List ℕ) (same : AreAlike first.ops s
   up : GoUp false (map new_or_letter (sources_of first (length before)))
   up = go_up (map new_or_letter (sources_of first (length before))) (first_text first (length before) texts)
 
-  letter_at : (at : ℕ) (source : Source) → slice_get (sources_of first (length before)) at ≡ Some source → slice_get (map new_or_letter (sources_of first (length before))) at ≡ Some (new_or_letter source)
+  letter_at : (at : ℕ) (source : UnitSource) → slice_get (sources_of first (length before)) at ≡ Some source → slice_get (map new_or_letter (sources_of first (length before))) at ≡ Some (new_or_letter source)
   letter_at at source is = get-map new_or_letter (sources_of first (length before)) at ∙ ap (option_map new_or_letter) is
 
   -- a kept unit is the same after both
@@ -141,7 +141,7 @@ module _ (first second : Patch) (before : List ℕ) (same : AreAlike first.ops s
   new_is : (at own unit : ℕ) → slice_get (sources_of first (length before)) at ≡ Some (new_unit own) → slice_get (text_after first before) at ≡ Some unit → own ≡ unit
   new_is at own unit is here = same_some (slice_get (text_after first before) at) own unit (read_at first before at (new_unit own) is) here
 
-  pair_of : (at high low : ℕ) (one other : Source) → slice_get (sources_of first (length before)) at ≡ Some one → slice_get (sources_of first (length before)) (suc at) ≡ Some other
+  pair_of : (at high low : ℕ) (one other : UnitSource) → slice_get (sources_of first (length before)) at ≡ Some one → slice_get (sources_of first (length before)) (suc at) ≡ Some other
       → slice_get (text_after first before) at ≡ Some high → slice_get (text_after first before) (suc at) ≡ Some low → is_high_surrogate high ≡ true → is_low_surrogate low ≡ true
       → ((slice_get (text_after second before) at ≡ Some high) × (slice_get (text_after second before) (suc at) ≡ Some low)) ⊎ CutsInserted first (length before) (suc at)
   pair_of at high low (kept_at place) (kept_at next) is_one is_other at_high at_low told_high told_low = inl (kept_same at place high is_one at_high, kept_same (suc at) next low is_other at_low)
@@ -175,7 +175,7 @@ module _ (first second : Patch) (before : List ℕ) (same : AreAlike first.ops s
       no_letter : false ≡ true → ⊥
       no_letter is = cc
 
-  source_at : (at unit : ℕ) → slice_get (text_after first before) at ≡ Some unit → (source : Source) × (slice_get (sources_of first (length before)) at ≡ Some source)
+  source_at : (at unit : ℕ) → slice_get (text_after first before) at ≡ Some unit → (source : UnitSource) × (slice_get (sources_of first (length before)) at ≡ Some source)
   source_at at unit is =
       get_below (sources_of first (length before)) at
       (omega (arith, below_get unit (text_after first before) at is, ap length (units_read first before), length-map (sources_of first (length before)) (unit_of before)))
@@ -216,8 +216,7 @@ taken_back_applies first back second text is_text texts back_texts can_back can_
     let can_undo = CanApply-inverse_all back text is_text back_texts can_back in
     let again : text_after undo before ≡ text = text_after-inverse back text can_back.ordered can_back.inside in
     let can = merges.merges in
-    let long : length (text_after first before) ≡ length_after first (length before) = length-text_after first before can.first_inside in
-    (
+    let long : length (text_after first before) ≡ length_after first (length before) = length-text_after first before can.first_inside in (
       record {
         ordered = can.first_ordered;
         inside = can.first_inside;

@@ -22,7 +22,7 @@ use Rattle.pad_stroke.specs.Laws.{somes}
 use Rattle.pad_stroke.proofs.CallerLemmas.{CanApply-typed, length-typed, length-marks_of, NoRepeat-marks_of, marks_stand_once, patched-one}
 use Rattle.pad_row.specs.Laws.{IsCounted, InTurnOn, how_often}
 use Rattle.pad_row.specs.Own.{IsTyped}
-use Rattle.pad_row.specs.Pairs.{IsPaired, IsWhole, AreTyped}
+use Rattle.pad_row.specs.Pairs.{IsPaired, IsPairedWork, AreTyped}
 use Rattle.pad_row.specs.Edits.{IsFresh, AllowedApplies, TypedWhole, MarksOfStroke, MarksOfOnce, EditRow, with_stroke, EditTyped, OthersStayTyped, EditIsTyped}
 use Rattle.pad_row.proofs.Works.{turn_row}
 use Rattle.pad_row.proofs.PairWorks.{typed_paired}

@@ -4,7 +4,7 @@ use Rattle.std.specs.Prelude.{Option, Some, None, All, Contains, slice_get, filt
 use Rattle.std.specs.List.{range_with_len}
 use Rattle.std.specs.Option.{option_map}
 use Rattle.std.specs.Char.Utf16.{is_high_surrogate, is_low_surrogate}
-use Rattle.std.proofs.lemmas.List.{length-map, length-append, length-drop, length-replicate}
+use Rattle.std.proofs.lemmas.List.{append-nil, length-map, length-append, length-drop, length-replicate}
 use Rattle.std.proofs.lemmas.List.Elements.{All-head, All-tail}
 use Rattle.std.proofs.lemmas.List.FromFn.{length-map-range_with_len, length-range_with_len}
 use Rattle.pad_text.specs.Text.{IsText, CutsPair}
@@ -16,7 +16,7 @@ use Rattle.pad_patch.specs.Misfit.{EndsAfter}
 use Rattle.pad_patch.proofs.CallerLemmas.{IsLaid, laid, map-patched, map-map, get-map, get-range, below_get, somes_of, somes-patched, somes-some, replicate-map, length-patched}
 use Rattle.pad_merge.specs.declared.origin.Origin.{Origin}
 use Rattle.pad_merge.specs.declared.origin.Origin.TheVariants.{First, Second}
-use Rattle.pad_merge.specs.Source.{Source, kept_at, new_unit, kept_from, sources_of}
+use Rattle.pad_merge.specs.UnitSource.{UnitSource, kept_at, new_unit, kept_from, sources_of}
 use Rattle.pad_merge.specs.Origin.{origins, named_unit, named_in}
 use Rattle.pad_merge.specs.Merge.{merged, CanMerge, CutsNewPair, CutsInserted}
 use Rattle.pad_merge.proofs.CallerLemmas.{named_all, length-origins, patched-merged, texts-merged}
@@ -24,10 +24,11 @@ use Rattle.pad_stroke.specs.declared.mark.Mark.{Mark}
 use Rattle.pad_stroke.specs.Mark.{marks_of}
 use Rattle.pad_stroke.specs.Work.{Marked}
 use Rattle.pad_stroke.specs.InTurn.{no_mark, mark_from, in_turn}
+use Rattle.pad_stroke.specs.Edit.{typed}
 use Rattle.pad_stroke.specs.Through.{carried}
-use Rattle.pad_stroke.proofs.CallerLemmas.{carried_inserted, carried_marks}
+use Rattle.pad_stroke.proofs.CallerLemmas.{carried_inserted, carried_marks, length-marks_of, length-typed, patched-one}
 use Rattle.pad_row.specs.Laws.{IsCounted}
-use Rattle.pad_row.specs.Pairs.{IsNextMark, IsPaired, IsWhole, TypedPaired, TurnWhole, TurnUnits, CarriedUnits, with_marks}
+use Rattle.pad_row.specs.Pairs.{IsNextMark, IsPaired, IsPairedWork, TypedPaired, TurnWhole, TurnUnits, EditUnits, UnitsAreShown, CarriedUnits, with_marks, units_after}
 use Rattle.pad_row.proofs.Units.{GoUp, go_up}
 use Rattle.pad_row.proofs.PairRows.{Unit2, Units, awaited, Goes, ending, Good, IsUncut, GoodParts, AreUncut, good_copied, good_none}
 
@@ -128,7 +129,7 @@ uncut_none size (operation ∷ operations) = (
 )
 
 -- the units that sources show, and those that with_marks units show
-unit_of_source : Source → Option ℕ
+unit_of_source : UnitSource → Option ℕ
 unit_of_source (kept_at place) = None
 unit_of_source (new_unit unit) = Some unit
 
@@ -168,7 +169,7 @@ same_shown work size enough =
     ∙ ap (λ us. patched work.patch us (map unit_shown (replicate size None))) (shown_marked (inserted work.patch) work.marks enough)
     ∙ ap (patched work.patch (map Some (inserted work.patch))) (shown_none size))
 
-source_there : (o : Option Source) (unit : ℕ) → option_map unit_of_source o ≡ Some (Some unit) → o ≡ Some (new_unit unit)
+source_there : (o : Option UnitSource) (unit : ℕ) → option_map unit_of_source o ≡ Some (Some unit) → o ≡ Some (new_unit unit)
 unfolding unit_of_source
 source_there None unit is = cc
 source_there (Some (kept_at place)) unit is = let never : None ≡ Some unit = cc in cc
@@ -295,7 +296,7 @@ module _ (first second : Marked) (enough_first : length (inserted first.patch) �
 
 whole_turn : (first second : Marked) (size : ℕ) → All InsertsText (merged first.patch second.patch size).ops
     → length (map (mark_from first.marks second.marks) (origins first.patch second.patch size)) ≡ length (inserted (merged first.patch second.patch size))
-    → IsPaired (inserted (merged first.patch second.patch size)) (map (mark_from first.marks second.marks) (origins first.patch second.patch size)) → IsWhole (in_turn first second size)
+    → IsPaired (inserted (merged first.patch second.patch size)) (map (mark_from first.marks second.marks) (origins first.patch second.patch size)) → IsPairedWork (in_turn first second size)
 unfolding in_turn
 whole_turn first second size texts counted paired = record { texts = texts; counted = counted; paired = paired }
 
@@ -378,3 +379,26 @@ turn_units first second row can counted_first counted_second =
 pub carried_units : CarriedUnits
 carried_units work by after =
     ap (λ us. with_marks us (carried work by after).marks) (carried_inserted work by after) ∙ ap (with_marks (inserted work.patch)) (carried_marks work by after)
+
+pub edit_units : EditUnits
+edit_units work operation stroke row can counted =
+    let marks = marks_of stroke (length operation.insert) in
+    let news = with_marks operation.insert marks in
+    let enough : length operation.insert ≤ length marks = omega (arith, length-marks_of stroke (length operation.insert)) in
+    turn_units work (typed work operation stroke) row can counted (length-typed work operation stroke)
+    ∙ ap (λ us. patched (typed work operation stroke).patch (with_marks us marks) (units_after work row)) (append-nil operation.insert)
+    ∙ patched-one operation work.patch.before news (units_after work row) (length-marked operation.insert marks enough)
+
+pub units_are_shown : UnitsAreShown
+units_are_shown work size counted =
+    let all = with_marks (inserted work.patch) work.marks in
+    let news = somes_of all in
+    let enough : length (inserted work.patch) ≤ length work.marks = omega (arith, counted) in
+    let nothing : Units = replicate size None in
+    let none_there : map (λ _. None) (range_with_len 0 size) ≡ nothing = replicate-map None (range_with_len 0 size) ∙ ap (λ n. replicate n None) (length-range_with_len 0 size) in
+    let news_count : length news ≡ length (inserted work.patch) =
+    sym (length-map news Some) ∙ ap length (marked_somes (inserted work.patch) work.marks) ∙ length-marked (inserted work.patch) work.marks enough in
+    ap (map Some)
+    (ap (λ us. somes_of (patched work.patch us nothing)) (sym (marked_somes (inserted work.patch) work.marks)) ∙ ap (λ us. somes_of (patched work.patch (map Some news) us)) (sym none_there)
+    ∙ somes-patched work.patch news (range_with_len 0 size) news_count)
+    ∙ marked_somes (inserted work.patch) work.marks

@@ -17,7 +17,7 @@ use Rattle.pad_stroke.specs.InTurn.{no_mark}
 use Rattle.pad_stroke.specs.Through.{carried}
 use Rattle.pad_stroke.specs.Strip.{stays, staying, KeepsPairs, stripped}
 use Rattle.pad_stroke.proofs.CallerLemmas.{stays_true, stays_none, carried_marks, carried_inserted, carried_texts, stripped_counted, stripped_inserted, stripped_is_filter, stripped_texts, pairs_stay_whole}
-use Rattle.pad_row.specs.Pairs.{IsNextMark, IsPaired, IsWhole, AreTyped, CarriedWhole, StrippedWhole, StripsWhole, MovedWhole, MovedTyped, StrippedUnits, with_marks, stays_with}
+use Rattle.pad_row.specs.Pairs.{IsNextMark, IsPaired, IsPairedWork, AreTyped, CarriedWhole, StrippedWhole, StripsWhole, MovedWhole, MovedTyped, StrippedUnits, with_marks, stays_with}
 use Rattle.pad_row.proofs.Counts.{among}
 use Rattle.pad_row.proofs.Units.{GoUp, go_up, low_after, high_before}
 use Rattle.pad_row.proofs.TypedUnits.{typed_there}
@@ -44,7 +44,7 @@ unit_at : (typed : Mark → ℕ) (work : Marked) (place : ℕ) (mark : Mark) →
 unit_at typed work place mark are is = ap (λ us. slice_get us place) (sym are) ∙ get-map typed work.marks place ∙ ap (option_map typed) is
 
 -- the next mark stands in a whole work after a mark of a high surrogate
-next_in : (typed : Mark → ℕ) (of : Marked) (first second : Mark) → IsWhole of → AreTyped typed of → is_high_surrogate (typed first) ≡ true → IsNextMark first second → Contains of.marks first → Contains of.marks second
+next_in : (typed : Mark → ℕ) (of : Marked) (first second : Mark) → IsPairedWork of → AreTyped typed of → is_high_surrogate (typed first) ≡ true → IsNextMark first second → Contains of.marks first → Contains of.marks second
 next_in typed of first second whole are high next contains =
     let at = has_at first of.marks (contains_has first of.marks contains) in
     let unit = unit_at typed of at.0 first are at.1 in
@@ -60,7 +60,7 @@ same_index : (a b c : ℕ) → c ≡ a + 1 → c ≡ b + 1 → a ≡ b
 same_index a b c first second = omega (arith, first, second)
 
 -- and the mark before it before a mark of a low surrogate
-before_in : (typed : Mark → ℕ) (of : Marked) (first second : Mark) → IsWhole of → AreTyped typed of → is_low_surrogate (typed second) ≡ true → IsNextMark first second → Contains of.marks second → Contains of.marks first
+before_in : (typed : Mark → ℕ) (of : Marked) (first second : Mark) → IsPairedWork of → AreTyped typed of → is_low_surrogate (typed second) ≡ true → IsNextMark first second → Contains of.marks second → Contains of.marks first
 before_in typed of first second whole are low next contains =
     let at = has_at second of.marks (contains_has second of.marks contains) in
     let unit = unit_at typed of at.0 second are at.1 in

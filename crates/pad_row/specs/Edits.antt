@@ -13,7 +13,7 @@ use Rattle.pad_stroke.specs.Edit.{IsAllowed, typed, edited}
 use Rattle.pad_stroke.specs.Laws.{somes}
 use Rattle.pad_row.specs.Laws.{IsCounted, InTurnOn, how_often}
 use Rattle.pad_row.specs.Own.{IsTyped}
-use Rattle.pad_row.specs.Pairs.{IsWhole, AreTyped}
+use Rattle.pad_row.specs.Pairs.{IsPairedWork, AreTyped}
 
 -- no mark of the list has this stroke
 abbrev pub IsFresh : ℕ → List Mark → Type 0
@@ -25,7 +25,7 @@ AllowedApplies = (work : Marked) (operation : Operation) (stroke : ℕ) (shown :
 
 -- what an edit of a text types is whole
 abbrev pub TypedWhole : Type 0
-TypedWhole = (work : Marked) (operation : Operation) (stroke : ℕ) → IsText operation.insert → IsWhole (typed work operation stroke)
+TypedWhole = (work : Marked) (operation : Operation) (stroke : ℕ) → IsText operation.insert → IsPairedWork (typed work operation stroke)
 
 -- the marks that one edit types are those of its stroke with the indexes below the count
 abbrev pub MarksOfStroke : Type 0

@@ -1,16 +1,18 @@
 -- The marks of the two units of a surrogate pair.
-use Rattle.std.specs.Prelude.{◌≡◌, ℕ, suc, ◌+◌, Bool, true, List, [], ◌∷◌, map, filter, length, Option, Some, None, All, IsTrue, slice_get}
+use Rattle.std.specs.Prelude.{◌≡◌, ℕ, suc, ◌+◌, Bool, true, List, [], ◌∷◌, ◌++◌, map, filter, take, drop, replicate, length, Option, Some, None, All, IsTrue, slice_get}
 use Rattle.std.specs.Char.Utf16.{is_high_surrogate, is_low_surrogate}
 use Rattle.pad_text.specs.Text.{IsText}
 use Rattle.pad_text.specs.declared.name.Name.{Name}
 use Rattle.pad_patch.specs.declared.operation.Operation.{Operation}
 use Rattle.pad_patch.specs.declared.patch.Patch.{Patch}
-use Rattle.pad_patch.specs.Piece.{inserted, patched}
+use Rattle.pad_patch.specs.Piece.{end_of, inserted, patched}
 use Rattle.pad_merge.specs.Merge.{CanMerge}
 use Rattle.pad_stroke.specs.declared.mark.Mark.{Mark}
 use Rattle.pad_stroke.specs.Mark.{marks_of}
 use Rattle.pad_stroke.specs.Work.{Marked, moved_to}
 use Rattle.pad_stroke.specs.InTurn.{in_turn}
+use Rattle.pad_stroke.specs.Edit.{typed, edited}
+use Rattle.pad_stroke.specs.Laws.{somes}
 use Rattle.pad_stroke.specs.Through.{carried}
 use Rattle.pad_stroke.specs.Strip.{KeepsPairs, stays, stripped}
 use Rattle.pad_row.specs.Laws.{IsCounted}
@@ -27,7 +29,7 @@ IsPaired units marks =
     → slice_get marks place ≡ Some first → slice_get marks (suc place) ≡ Some second → IsNextMark first second
 
 -- the work inserts texts, has one mark for each unit that it inserts, and the two units of each pair have successive marks
-pub record IsWhole (work : Marked) : Type 0 where
+pub record IsPairedWork (work : Marked) : Type 0 where
   pub texts : All (λ (operation : Operation). IsText operation.insert) work.patch.ops
   pub counted : IsCounted work
   pub paired : IsPaired (inserted work.patch) work.marks
@@ -42,20 +44,20 @@ TypedPaired = (stroke : ℕ) (units : List ℕ) → IsPaired units (marks_of str
 
 -- works in turn stay paired
 abbrev pub TurnWhole : Type 0
-TurnWhole = (first second : Marked) (size : ℕ) → CanMerge first.patch second.patch size → IsWhole first → IsWhole second → IsWhole (in_turn first second size)
+TurnWhole = (first second : Marked) (size : ℕ) → CanMerge first.patch second.patch size → IsPairedWork first → IsPairedWork second → IsPairedWork (in_turn first second size)
 
 -- and so does a carried work
 abbrev pub CarriedWhole : Type 0
-CarriedWhole = (work : Marked) (by : Patch) (after : Name) → IsWhole work → IsWhole (carried work by after)
+CarriedWhole = (work : Marked) (by : Patch) (after : Name) → IsPairedWork work → IsPairedWork (carried work by after)
 
 -- and a stripped one, of whose pairs both units stay or neither
 abbrev pub StrippedWhole : Type 0
-StrippedWhole = (work of : Marked) → IsWhole work → KeepsPairs of.marks (inserted work.patch) work.marks → IsWhole (stripped work of)
+StrippedWhole = (work of : Marked) → IsPairedWork work → KeepsPairs of.marks (inserted work.patch) work.marks → IsPairedWork (stripped work of)
 
 -- of two works whose units were typed under their marks the one can be stripped of the other: of each pair both units
 -- stay or neither
 abbrev pub StripsWhole : Type 0
-StripsWhole = (work of : Marked) (typed : Mark → ℕ) → IsWhole work → IsWhole of → AreTyped typed work → AreTyped typed of → KeepsPairs of.marks (inserted work.patch) work.marks
+StripsWhole = (work of : Marked) (typed : Mark → ℕ) → IsPairedWork work → IsPairedWork of → AreTyped typed work → AreTyped typed of → KeepsPairs of.marks (inserted work.patch) work.marks
 
 -- a mark stays with its unit: each unit of works in turn is the one that was typed under its mark, if it was so in each
 abbrev pub TurnTyped : Type 0
@@ -71,7 +73,7 @@ StrippedTyped = (work of : Marked) (typed : Mark → ℕ) → IsCounted work →
 
 -- a moved work has the same units with the same marks
 abbrev pub MovedWhole : Type 0
-MovedWhole = (work : Marked) (before : Name) → IsWhole work → IsWhole (moved_to work before)
+MovedWhole = (work : Marked) (before : Name) → IsPairedWork work → IsPairedWork (moved_to work before)
 
 abbrev pub MovedTyped : Type 0
 MovedTyped = (work : Marked) (before : Name) (typed : Mark → ℕ) → AreTyped typed work → AreTyped typed (moved_to work before)
@@ -99,6 +101,17 @@ abbrev pub TurnUnits : Type 0
 TurnUnits =
     (first second : Marked) (row : UnitRow) → CanMerge first.patch second.patch (length row) → IsCounted first → IsCounted second
     → units_after (in_turn first second (length row)) row ≡ units_after second (units_after first row)
+
+-- an edit puts its units with their marks in place of what it removes of the shown units
+abbrev pub EditUnits : Type 0
+EditUnits =
+    (work : Marked) (operation : Operation) (stroke : ℕ) (row : UnitRow) → CanMerge work.patch (typed work operation stroke).patch (length row) → IsCounted work
+    → units_after (edited work operation stroke (length row)) row
+    ≡ take operation.offset (units_after work row) ++ (with_marks operation.insert (marks_of stroke (length operation.insert)) ++ drop (end_of operation) (units_after work row))
+
+-- after a work on a text of which no unit is marked, those that are there are those that the work inserts
+abbrev pub UnitsAreShown : Type 0
+UnitsAreShown = (work : Marked) (size : ℕ) → IsCounted work → map Some (somes (units_after work (replicate size None))) ≡ marked_units work
 
 -- those of a carried work are those of the work
 abbrev pub CarriedUnits : Type 0

@@ -22,7 +22,7 @@ pub fn other_applied()
 {}
 
 /// Own work stands once after an edit.
-pub fn edited()
+pub fn own_edited()
     ensures { Edited }
 {}
 

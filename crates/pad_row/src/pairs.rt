@@ -1,6 +1,6 @@
 //! Marks and their units: laws of surrogate pairs, each proved once.
 ghost use Rattle.pad_row.specs.Pairs.{TypedPaired, TurnWhole, CarriedWhole, StrippedWhole, StripsWhole, TurnTyped, CarriedTyped, StrippedTyped};
-ghost use Rattle.pad_row.specs.Pairs.{MovedWhole, MovedTyped, TurnUnits, CarriedUnits, StrippedUnits};
+ghost use Rattle.pad_row.specs.Pairs.{MovedWhole, MovedTyped, TurnUnits, EditUnits, UnitsAreShown, CarriedUnits, StrippedUnits};
 
 /// The two units of each pair that one edit types have successive marks.
 pub fn typed_paired()
@@ -55,6 +55,16 @@ pub fn moved_typed()
 /// The units with their marks after two works in turn are those after the first one and then the second one.
 pub fn turn_units()
     ensures { TurnUnits }
+{}
+
+/// An edit puts its units with their marks in place of what it removes.
+pub fn edit_units()
+    ensures { EditUnits }
+{}
+
+/// The units with marks that are shown over a text without any are those that the work inserts.
+pub fn units_are_shown()
+    ensures { UnitsAreShown }
 {}
 
 /// A carried work inserts the same units with the same marks.

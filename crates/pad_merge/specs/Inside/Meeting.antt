@@ -3,11 +3,11 @@ use Rattle.std.specs.Prelude.{ℕ, ◌≤◌, Option, Some, None}
 use Rattle.pad_patch.specs.declared.operation.Operation.{Operation}
 use Rattle.pad_patch.specs.declared.patch.Patch.{Patch}
 use Rattle.pad_patch.specs.Piece.{end_of, length_after}
-use Rattle.pad_merge.specs.Source.{Source, kept_at, new_unit}
+use Rattle.pad_merge.specs.UnitSource.{UnitSource, kept_at, new_unit}
 use Rattle.pad_merge.specs.Merge.{CutsInserted}
 
 -- the unit of a source, if it is a new one
-abbrev pub new_of : Source → Option ℕ
+abbrev pub new_of : UnitSource → Option ℕ
 new_of (kept_at place) = None
 new_of (new_unit unit) = Some unit
 

@@ -5,7 +5,7 @@ use Rattle.std.proofs.lemmas.List.{drop_all}
 use Rattle.std.proofs.lemmas.Option.{slice_get-get_or}
 use Rattle.pad_patch.specs.Piece.{end_of}
 use Rattle.pad_patch.proofs.CallerLemmas.{IsLaid, laid}
-use Rattle.pad_merge.specs.Source.{sources_of}
+use Rattle.pad_merge.specs.UnitSource.{sources_of}
 use Rattle.pad_merge.specs.Inside.Meeting.{new_of}
 use Rattle.pad_merge.proofs.Sources.{drop-next}
 use Rattle.pad_merge.proofs.Standing.{shown_at, at_kept, at_new, at_rest, at_end, past_end, shown_whole}

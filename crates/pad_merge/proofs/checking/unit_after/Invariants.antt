@@ -3,7 +3,7 @@ use Rattle.std.proofs.Common.{◌≡◌, drop}
 use Rattle.std.specs.Prelude.{slice_get}
 use Rattle.std.specs.Option.{option_map}
 use Rattle.pad_patch.proofs.CallerLemmas.{IsLaid}
-use Rattle.pad_merge.specs.Source.{sources_of}
+use Rattle.pad_merge.specs.UnitSource.{sources_of}
 use Rattle.pad_merge.specs.Inside.Meeting.{new_of}
 use Rattle.pad_merge.proofs.Standing.{shown_at}
 use Rattle.pad_merge.proofs.checking.unit_after.Given as goal

@@ -6,7 +6,7 @@ use Rattle.std.proofs.lemmas.Option.{slice_get-get_or}
 use Rattle.pad_patch.specs.Piece.{pieces_from}
 use Rattle.pad_patch.proofs.CallerLemmas.{IsLaid, laid}
 use Rattle.pad_patch.proofs.CallerLemmas.{texts_next}
-use Rattle.pad_merge.specs.Source.{new_unit, sources_after}
+use Rattle.pad_merge.specs.UnitSource.{new_unit, sources_after}
 use Rattle.pad_merge.specs.Origin.{numbered, origins_after}
 use Rattle.pad_merge.proofs.Numbers.{origins_of_pieces, origins-pieces}
 use Rattle.pad_merge.specs.CopiedUnit.{source_of, origin_of, origin_in}
@@ -18,7 +18,7 @@ pub loop-op-init : goal.loop-op-init
 loop-op-init c =
     rw (c.new-copy.ensures.items, c.as_slice-op-items.ensures) (record {
       sources = sym (sources-pieces c.args.patch.now (map source_of c.args.units.now));
-      origins = sym (origins-pieces (origin_in c.args.turn) c.args.patch.now (map origin_of c.args.units.now));
+      origins = sym (origins-pieces (origin_in c.args.side) c.args.patch.now (map origin_of c.args.units.now));
       laid_out = laid c.args.patch.now (length c.args.units.now) c.requires.ordered c.requires.inside;
       texts = λ index operation below. absurd (omega arith);
       few = omega arith;
@@ -29,7 +29,7 @@ loop-op-preserved c =
     let units = c.args.units.now in
     let sources = map source_of units in
     let origins = map origin_of units in
-    let number = origin_in c.args.turn in
+    let number = origin_in c.args.side in
     let items = c.as_slice-op-items.result.now in
     let index = c.loop-op.op-index in
     let place = c.loop-op.place in
@@ -83,7 +83,7 @@ pub returns-clause-origins : goal.returns-clause-origins
 returns-clause-origins c =
     let units = c.args.units.now in
     let origins = map origin_of units in
-    let number = origin_in c.args.turn in
+    let number = origin_in c.args.side in
     let left = drop_all c.loop-op.op-index c.as_slice-op-items.result.now c.loop-op-test.false in
     let before = c.loop-op.copy.items in
     let after = c.extend_from_slice-2.new.self.items in

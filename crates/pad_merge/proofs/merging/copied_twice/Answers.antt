@@ -2,7 +2,7 @@ use Rattle.std.proofs.Common.{◌≡◌, ℕ, sym, ◌∙◌, ap, subst, length,
 use Rattle.std.proofs.lemmas.List.{length-map}
 use Rattle.pad_text.specs.Text.{IsText}
 use Rattle.pad_patch.specs.Misfit.{EndsAfter}
-use Rattle.pad_merge.specs.Source.{sources_after, sources_of, IsAscending}
+use Rattle.pad_merge.specs.UnitSource.{sources_after, sources_of, IsAscending}
 use Rattle.pad_merge.specs.CopiedUnit.{source_of, new_or_letter}
 use Rattle.pad_merge.proofs.Sources.{length-kept_from}
 use Rattle.pad_merge.proofs.Both.{length-sources_of, rising_both, both_text}

@@ -1,6 +1,6 @@
 use Rattle.std.proofs.Common.{◌-◌, ◌+◌, None, ◌∙◌, replicate}
 use Rattle.pad_merge.specs.declared.copied_unit.CopiedUnit.TheVariants.{Kept}
-use Rattle.pad_merge.specs.Source.{kept_from}
+use Rattle.pad_merge.specs.UnitSource.{kept_from}
 use Rattle.pad_merge.specs.CopiedUnit.{source_of, origin_of}
 use Rattle.pad_merge.proofs.Sources.{kept_from-next}
 use Rattle.pad_merge.proofs.Units.{grown_by, none-next}

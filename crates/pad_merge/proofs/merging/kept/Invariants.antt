@@ -1,6 +1,6 @@
 -- the units so far, and those of the rest
 use Rattle.std.proofs.Common.{◌≡◌, ◌-◌, ◌++◌, None, map, replicate}
-use Rattle.pad_merge.specs.Source.{kept_from}
+use Rattle.pad_merge.specs.UnitSource.{kept_from}
 use Rattle.pad_merge.specs.CopiedUnit.{source_of, origin_of}
 use Rattle.pad_merge.proofs.merging.kept.Given as goal
 

@@ -1,6 +1,6 @@
 use Rattle.std.proofs.Common.{◌+◌, ◌++◌, map, drop, sym, ◌∙◌, ap, subst, add-one}
 use Rattle.pad_text.specs.Text.{IsText}
-use Rattle.pad_merge.specs.Source.{IsAscending}
+use Rattle.pad_merge.specs.UnitSource.{IsAscending}
 use Rattle.pad_merge.specs.declared.copied_unit.CopiedUnit.TheVariants.{Kept, New}
 use Rattle.pad_merge.specs.CopiedUnit.{source_of, new_or_letter}
 use Rattle.pad_merge.proofs.Sources.{drop-read}

@@ -1,7 +1,7 @@
 -- the operations so far, and those of the rest
 use Rattle.std.proofs.Common.{◌≡◌, ◌++◌, [], map, drop}
 use Rattle.pad_text.specs.Text.{IsText}
-use Rattle.pad_merge.specs.Source.{IsAscending}
+use Rattle.pad_merge.specs.UnitSource.{IsAscending}
 use Rattle.pad_merge.specs.CopiedUnit.{source_of, new_or_letter}
 use Rattle.pad_merge.specs.Merge.{operations_between}
 use Rattle.pad_merge.proofs.merging.patch_of.Given as goal

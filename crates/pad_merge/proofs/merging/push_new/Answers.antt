@@ -1,6 +1,6 @@
 use Rattle.std.proofs.Common.{◌+◌, ◌-◌, ◌∷◌, Some, drop, map, length, sym, ◌∙◌, ap, add-one, drop-cons, get_or}
 use Rattle.pad_merge.specs.declared.copied_unit.CopiedUnit.TheVariants.{New}
-use Rattle.pad_merge.specs.Source.{new_unit}
+use Rattle.pad_merge.specs.UnitSource.{new_unit}
 use Rattle.pad_merge.specs.Origin.{numbered}
 use Rattle.pad_merge.specs.CopiedUnit.{source_of, origin_of, origin_in}
 use Rattle.pad_merge.proofs.Units.{grown_by, numbered-next}
@@ -11,7 +11,7 @@ loop-index-preserved c =
     let units = c.args.units.now in
     let index = c.loop-index.index in
     let unit = New (get_or units index 0) c.origin-origin.result in
-    let number = origin_in c.args.turn in
+    let number = origin_in c.args.side in
     let before = c.loop-index.copy.items in
     let after = c.push.new.self.items in
     let rest = numbered number (c.args.inserted + (index + 1)) (length units - (index + 1)) in

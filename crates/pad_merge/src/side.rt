@@ -4,14 +4,14 @@ use crate::origin::Origin;
 
 /// One of the two patches of a merge.
 #[derive(Clone, Copy, Debug)]
-pub(crate) enum Turn {
+pub(crate) enum Side {
     /// The patch that is applied first.
     Earlier,
     /// The patch that is applied to the text after the first.
     Later,
 }
 
-impl Turn {
+impl Side {
     ghost use Rattle.pad_merge.specs.CopiedUnit.{origin_in};
 
     /// The origin of the unit at a place among all that this patch inserts.
@@ -19,8 +19,8 @@ impl Turn {
         ensures { result ≡ origin_in self place }
     {
         match self {
-            Turn::Earlier => Origin::First(place),
-            Turn::Later => Origin::Second(place),
+            Side::Earlier => Origin::First(place),
+            Side::Later => Origin::Second(place),
         }
     }
 }
