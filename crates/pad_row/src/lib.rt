@@ -5,7 +5,7 @@
 //! these steps. Each law is the contract of a public function with an empty body; a proof calls the function:
 //!
 //! ```text
-//! pad_row::laws::own_reverted();
+//! pad_row::own::own_reverted();
 //! // from here on a proof may use `OwnReverted` of the works at hand
 //! ```
 #![tactic(auto)]
