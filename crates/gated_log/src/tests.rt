@@ -1,26 +1,59 @@
 //! The bytes of a log file, its limits, and what a stop leaves, by values from outside.
-ghost use Rattle.std.specs.Prelude.{◌≡◌, ◌≤◌, [], List, ℕ, length, IsTrue, IfOk};
+//!
+//! The check proves tests too, and what a function has in sight is what makes that long: so payloads, tables and logs each
+//! stand in a small function that promises no more than its callers need.
+ghost use Rattle.std.specs.Prelude.{◌≡◌, ◌≤◌, List, ℕ, length, IsTrue, IfOk};
 ghost use Rattle.std.specs.Bool.{OnTrue};
-ghost use Rattle.disk_volume.specs.Disk.{began};
 ghost use Rattle.disk_volume.specs.Memory.{disk_of};
-ghost use Rattle.gated_log.specs.Log.{Stands};
+ghost use Rattle.gated_log.specs.Log.{Stands, is_primed};
+ghost use Rattle.log_format.specs.declared.frame.TheConstants.{LONGEST_PAYLOAD};
 
 use crate::{
     AppendRefused, Damage, Form, Frame, Frames, Ledger, LoadRefused, Log, Payload, Payloads,
 };
-use disk_volume::{MemVolume, Pick, Volume};
-use pad_edge::Failed;
+use disk_volume::{MemVolume, Pick, Volume, settle};
 use std::alloc::{AllocError, Global};
 use std::test::Fail;
 
-const FILE: &str = "00112233445566778899aabbccddeeff.padlog";
+mod random;
+mod untold;
+
+const FILE: &str = "f";
 
 /// The identity of a sender, and a content of one letter.
-const FIRST: &[u8] = b"0000000000000001e56a5d4028bd8653m";
+fn first() -> &'static [u8]
+    ensures { length result.now ≤ LONGEST_PAYLOAD }
+{
+    b"0000000000000001e56a5d4028bd8653m"
+}
+
+/// The four bytes of its length.
+fn first_size() -> &'static [u8] {
+    b"\x00\x00\x00\x21"
+}
+
+/// These pieces, one after another.
+fn joined(alloc: Global, pieces: &[&[u8]]) -> Result<Vec<u8>, AllocError> {
+    let mut bytes = Vec::new(alloc);
+    for piece in pieces {
+        bytes.extend_from_slice(piece)?;
+    }
+    Ok(bytes)
+}
+
+/// A file that begins with the magic of this form, and goes on with these bytes.
+fn begun(alloc: Global, form: Form, rest: &[u8]) -> Result<Vec<u8>, AllocError> {
+    joined(alloc, &[form.magic().as_slice(), rest])
+}
+
+/// A volume without files.
+fn empty_volume(alloc: Global) -> MemVolume {
+    MemVolume::new(alloc, Vec::new(alloc))
+}
 
 /// A volume whose one file has these bytes, all of them on the disk.
 fn volume_of(alloc: Global, bytes: &[u8]) -> Result<MemVolume, Fail> {
-    let mut volume = MemVolume::new(alloc, Vec::new(alloc));
+    let mut volume = empty_volume(alloc);
     volume.write_at(FILE, 0, bytes)?;
     volume.sync(FILE)?;
     Ok(volume)
@@ -35,6 +68,61 @@ fn bytes_of(alloc: Global, volume: &mut MemVolume) -> Result<Vec<u8>, Fail> {
     Ok(bytes)
 }
 
+/// The log of the file.
+fn load(alloc: Global, volume: &mut MemVolume, form: Form) -> Result<Log, LoadRefused>
+    ensures live { IfOk result (λ log. IsTrue log.live) }
+    ensures holds { IfOk result (λ log. (payloads : List (List ℕ)) × Stands log payloads (disk_of volume.new)) }
+{
+    Log::load(alloc, volume, FILE, form)
+}
+
+/// How many payloads the log of the file has.
+fn count_in(alloc: Global, volume: &mut MemVolume, form: Form) -> Result<u64, LoadRefused> {
+    Ok(load(alloc, volume, form)?.count())
+}
+
+/// How a file of these bytes loads in this form: as so many payloads, or not.
+fn loaded(alloc: Global, bytes: &[u8], form: Form) -> Result<Result<u64, LoadRefused>, Fail> {
+    let mut volume = volume_of(alloc, bytes)?;
+    Ok(count_in(alloc, &mut volume, form))
+}
+
+/// Primes a log, and says whether that answered `Ok`.
+fn primed(log: &mut Log, volume: &mut MemVolume) -> bool
+    requires live { IsTrue log.old.live }
+    requires holds { (payloads : List (List ℕ)) × Stands log.old payloads (disk_of volume.old) }
+    ensures live { OnTrue result (IsTrue log.new.live) }
+    ensures primed { OnTrue result (IsTrue (is_primed log.new)) }
+    ensures holds { OnTrue result ((payloads : List (List ℕ)) × Stands log.new payloads (disk_of volume.new)) }
+{
+    match log.prime(volume, 0) {
+        Ok(()) => true,
+        Err(_) => false,
+    }
+}
+
+/// Appends a payload to a primed log, and says whether that answered `Ok`.
+fn appended(
+    alloc: Global,
+    log: &mut Log,
+    volume: &mut MemVolume,
+    payload: &[u8],
+) -> Result<bool, AllocError>
+    requires small { length payload.now ≤ LONGEST_PAYLOAD }
+    requires live { IsTrue log.old.live }
+    requires primed { IsTrue (is_primed log.old) }
+    requires holds { (payloads : List (List ℕ)) × Stands log.old payloads (disk_of volume.old) }
+    ensures live { IfOk result (λ stored. OnTrue stored (IsTrue log.new.live)) }
+    ensures holds { IfOk result (λ stored. OnTrue stored ((payloads : List (List ℕ)) × Stands log.new payloads (disk_of volume.new))) }
+{
+    let frame = Frame::build(alloc, payload)?;
+    log.reserve_one(alloc)?;
+    match log.append(volume, &frame) {
+        Ok(_) => Ok(true),
+        Err(_) => Ok(false),
+    }
+}
+
 /// Primes a log and appends a payload to it, and says whether both answered `Ok`.
 fn store(
     alloc: Global,
@@ -42,323 +130,210 @@ fn store(
     volume: &mut MemVolume,
     payload: &[u8],
 ) -> Result<bool, AllocError>
-    requires small { length payload.now ≤ 2097192 }
+    requires small { length payload.now ≤ LONGEST_PAYLOAD }
     requires live { IsTrue log.old.live }
     requires holds { (payloads : List (List ℕ)) × Stands log.old payloads (disk_of volume.old) }
     ensures live { IfOk result (λ stored. OnTrue stored (IsTrue log.new.live)) }
     ensures holds { IfOk result (λ stored. OnTrue stored ((payloads : List (List ℕ)) × Stands log.new payloads (disk_of volume.new))) }
 {
-    let frame = Frame::build(alloc, payload)?;
-    log.reserve_one(alloc)?;
-    if log.prime(volume, frame.size()).is_err() {
+    if !primed(log, volume) {
         return Ok(false);
     }
-    match log.append(volume, &frame) {
-        Ok(_) => Ok(true),
-        Err(_) => Ok(false),
-    }
+    appended(alloc, log, volume, payload)
 }
 
-/// These pieces, one after another.
-fn joined(alloc: Global, pieces: &[&[u8]]) -> Result<Vec<u8>, AllocError> {
-    let mut bytes = Vec::new(alloc);
-    for piece in pieces {
-        bytes.extend_from_slice(piece)?;
-    }
-    Ok(bytes)
-}
-
-/// The bytes of the file once this payload was stored `count` times, each time by a log that was loaded anew.
-fn stored(alloc: Global, payload: &[u8], count: u64) -> Result<Vec<u8>, Fail>
-    requires { length payload.now ≤ 2097192 }
+/// Stores a payload by a log that is loaded anew, and answers how many payloads it has then.
+fn store_one(alloc: Global, volume: &mut MemVolume, form: Form, payload: &[u8]) -> Result<u64, Fail>
+    requires { length payload.now ≤ LONGEST_PAYLOAD }
 {
-    let mut volume = MemVolume::new(alloc, Vec::new(alloc));
-    for _ in 0..count {
-        let mut log = Log::load(alloc, &mut volume, FILE, Form::One)?;
-        if !store(alloc, &mut log, &mut volume, payload)? {
-            return Err("the volume failed".into());
-        }
+    let mut log = load(alloc, volume, form)?;
+    if !store(alloc, &mut log, volume, payload)? {
+        return Err("the volume failed".into());
     }
-    bytes_of(alloc, &mut volume)
+    Ok(log.count())
 }
 
-/// A file with the first payload, and with its record once more behind this gate.
+/// A file of form One with the first payload, and with its record once more behind this gate.
 fn second_behind(alloc: Global, gate: u8) -> Result<Vec<u8>, AllocError> {
-    let size: &[u8] = b"\x00\x00\x00\x21";
     joined(
         alloc,
-        &[b"PADLOG1\n\x01", size, FIRST, &[gate], size, FIRST, b"\x00"],
+        &[
+            b"PADLOG1\n\x01",
+            first_size(),
+            first(),
+            &[gate],
+            first_size(),
+            first(),
+            b"\x00",
+        ],
     )
+}
+
+/// The bytes of a file once the first payload was stored so often, each time by a log that was loaded anew.
+fn stored(alloc: Global, times: u64) -> Result<Vec<u8>, Fail> {
+    let mut volume = empty_volume(alloc);
+    for _ in 0..times {
+        store_one(alloc, &mut volume, Form::One, first())?;
+    }
+    bytes_of(alloc, &mut volume)
 }
 
 #[test]
 fn writes_the_file_of_its_payloads(rt: HostRuntime) -> Result<(), Fail> {
     let alloc = rt.alloc();
-    let one = joined(alloc, &[b"PADLOG1\n\x01\x00\x00\x00\x21", FIRST, b"\x00"])?;
-    assert_eq!(rt; one.len(), 47);
-    assert_eq!(rt; stored(alloc, FIRST, 1)?, one);
-    let two = second_behind(alloc, 1)?;
-    assert_eq!(rt; two.len(), 85);
-    assert_eq!(rt; stored(alloc, FIRST, 2)?, two);
+    let bytes = stored(alloc, 2)?;
+    let wanted = second_behind(alloc, 1)?;
+    assert_eq!(rt; bytes, wanted);
     Ok(())
 }
 
-/// The three payloads that the tables store, and a fourth that shows that a log goes on.
-const PAYLOADS: [&[u8]; 4] = [FIRST, b"", b"c", b"more"];
+/// Stores three payloads, until a call fails, and says whether none did.
+fn three_stored(alloc: Global, log: &mut Log, volume: &mut MemVolume) -> Result<bool, AllocError>
+    requires live { IsTrue log.old.live }
+    requires holds { (payloads : List (List ℕ)) × Stands log.old payloads (disk_of volume.old) }
+{
+    if !store(alloc, log, volume, b"ab")? {
+        return Ok(false);
+    }
+    if !store(alloc, log, volume, b"")? {
+        return Ok(false);
+    }
+    store(alloc, log, volume, b"c")
+}
 
-/// Stores the three payloads with a stop in this call of their twelve, and answers how many payloads the volume that the
-/// stop left opens as, once it took a fourth.
-fn stopped(alloc: Global, call: u64, pick: Pick) -> Result<u64, Fail> {
-    let mut volume = MemVolume::new(alloc, Vec::new(alloc));
-    let mut log = Log::load(alloc, &mut volume, FILE, Form::One)?;
-    let Ok(()) = log.prime(&mut volume, 0) else {
-        return Err("the volume failed".into());
-    };
-    volume.stop_at(volume.calls().saturating_add(call), pick);
-    if store(alloc, &mut log, &mut volume, PAYLOADS[0])?
-        && store(alloc, &mut log, &mut volume, PAYLOADS[1])?
-        && store(alloc, &mut log, &mut volume, PAYLOADS[2])?
-    {
-        return Err("no call stopped".into());
+/// Stores three payloads with a stop in this call of their twelve, and says whether one of them was refused.
+fn stop_in(alloc: Global, volume: &mut MemVolume, stop: (u64, Pick)) -> Result<bool, Fail> {
+    let mut log = load(alloc, volume, Form::One)?;
+    if !primed(&mut log, volume) {
+        return Ok(false);
     }
-    if log.is_live() {
-        return Err("the log is live".into());
-    }
+    volume.stop_at(volume.calls().saturating_add(stop.0), stop.1);
+    Ok(!three_stored(alloc, &mut log, volume)?)
+}
+
+/// How many payloads what a stop left has, once it took one more.
+fn goes_on(alloc: Global, volume: &MemVolume) -> Result<u64, Fail> {
     let mut image = volume.image(alloc)?;
-    let mut log = Log::load(alloc, &mut image, FILE, Form::One)?;
-    if !store(alloc, &mut log, &mut image, PAYLOADS[3])? {
-        return Err("the image failed".into());
+    store_one(alloc, &mut image, Form::One, b"more")
+}
+
+/// The same, after a stop in this call of three appends, where one was refused.
+fn stopped(alloc: Global, stop: (u64, Pick)) -> Result<Option<u64>, Fail> {
+    let mut volume = empty_volume(alloc);
+    if stop_in(alloc, &mut volume, stop)? {
+        return Ok(Some(goes_on(alloc, &volume)?));
     }
-    Ok(log.count())
+    Ok(None)
+}
+
+/// What a stop leaves at the gate, if it comes once the gate was written: 00, 01, 37 or 01.
+fn picks() -> [Pick; 4] {
+    [Pick::Old, Pick::New, Pick::Torn(0x37), Pick::Torn(1)]
+}
+
+/// How many payloads a log has that had so many, after a stop in this call of an append of `added` under one gate. Its calls
+/// are: the record behind the gate, a sync, the gate, a sync.
+fn left_by_a_stop(held: u64, added: u64, call: u64, pick: usize) -> u64 {
+    if call < 2 || pick % 2 == 0 {
+        held
+    } else {
+        held.saturating_add(added)
+    }
 }
 
 #[test]
 fn a_stop_loses_nothing_acknowledged(rt: HostRuntime) -> Result<(), Fail> {
-    // Four calls an append: the record behind the gate, a sync, the gate, a sync. What a stop in the last two leaves at
-    // the gate decides: 00, 01, 37 or 01.
-    let picks = [Pick::Old, Pick::New, Pick::Torn(0x37), Pick::Torn(1)];
-    let counts = [
-        [1, 1, 1, 1],
-        [1, 1, 1, 1],
-        [1, 2, 1, 2],
-        [1, 2, 1, 2],
-        [2, 2, 2, 2],
-        [2, 2, 2, 2],
-        [2, 3, 2, 3],
-        [2, 3, 2, 3],
-        [3, 3, 3, 3],
-        [3, 3, 3, 3],
-        [3, 4, 3, 4],
-        [3, 4, 3, 4],
-    ];
-    for (call, counts) in counts.iter().enumerate() {
-        for (pick, count) in picks.iter().zip(counts) {
-            let stored = stopped(rt.alloc(), call as u64, *pick)?;
-            assert_eq!(rt; stored, *count, "a stop in call {call} with {pick:?}");
+    let picks = picks();
+    for call in 0..12 {
+        for (number, pick) in picks.iter().enumerate() {
+            let held = left_by_a_stop(call / 4, 1, call % 4, number);
+            let count = stopped(rt.alloc(), (call, *pick))?;
+            assert_eq!(rt;
+                count,
+                Some(held.saturating_add(1)),
+                "call {call}, {pick:?}"
+            );
         }
     }
     Ok(())
+}
+
+/// Primes the log of a file, and says whether that answered `Ok`.
+fn close(alloc: Global, volume: &mut MemVolume) -> Result<bool, Fail> {
+    let mut log = load(alloc, volume, Form::One)?;
+    Ok(primed(&mut log, volume) && log.is_live())
+}
+
+/// The bytes of a file once its log was primed.
+fn closed(alloc: Global, bytes: &[u8]) -> Result<Vec<u8>, Fail> {
+    let mut volume = volume_of(alloc, bytes)?;
+    if close(alloc, &mut volume)? {
+        return bytes_of(alloc, &mut volume);
+    }
+    Err("the volume failed".into())
 }
 
 #[test]
 fn a_torn_gate_is_closed_first(rt: HostRuntime) -> Result<(), Fail> {
     let alloc = rt.alloc();
-    let mut torn = volume_of(alloc, &second_behind(alloc, 0x37)?)?;
-    let mut log = Log::load(alloc, &mut torn, FILE, Form::One)?;
-    assert_eq!(rt; log.count(), 1);
-    let Ok(()) = log.prime(&mut torn, 0) else {
-        return Err("the volume failed".into());
-    };
-    // The gate is closed, so another priming makes no call.
-    let calls = torn.calls();
-    let Ok(()) = log.prime(&mut torn, 0) else {
-        return Err("the volume failed".into());
-    };
-    assert_eq!(rt; torn.calls(), calls);
-    assert_eq!(rt; bytes_of(alloc, &mut torn)?, second_behind(alloc, 0)?);
+    let torn = second_behind(alloc, 0x37)?;
+    let bytes = closed(alloc, &torn)?;
+    let wanted = second_behind(alloc, 0)?;
+    assert_eq!(rt; bytes, wanted);
     Ok(())
 }
 
-/// How a file of these bytes loads in this form: as so many payloads, or not.
-fn loaded(alloc: Global, bytes: &[u8], form: Form) -> Result<Result<u64, LoadRefused>, Fail> {
-    let mut volume = volume_of(alloc, bytes)?;
-    match Log::load(alloc, &mut volume, FILE, form) {
-        Ok(log) => Ok(Ok(log.count())),
-        Err(refused) => Ok(Err(refused)),
-    }
+/// What may stand behind a magic, and how many payloads that is.
+fn behind_a_magic() -> [(&'static [u8], u64); 6] {
+    [
+        (b"\x01\x00", 0),
+        (b"\x01\x00\x00\x00\x01a\x00", 1),
+        (b"\x01\x00\x00\x00\x01a", 0),
+        (b"\x01\x00\x00\x00\x01a\x00\x00\x00\x00\x01b\x00", 1),
+        (b"\x01\xff\xff\xff\xffa\x00", 0),
+        (b"\x01\xff\xff\xff\xff0123456789abcdefghij", 0),
+    ]
 }
 
-/// A file that begins with the magic of this form, or with that of the other, and goes on with these bytes.
-fn begun(alloc: Global, form: Form, rest: &[u8]) -> Result<Vec<u8>, AllocError> {
-    joined(alloc, &[form.magic().as_slice(), rest])
+/// Each form with the other, and the other's magic.
+fn forms() -> [(Form, Form, [u8; 8]); 2] {
+    [
+        (Form::One, Form::Two, *b"PADLOG2\n"),
+        (Form::Two, Form::One, *b"PADLOG1\n"),
+    ]
+}
+
+/// How a file loads in this form that begins with the magic of that one.
+fn loaded_behind(
+    alloc: Global,
+    form: Form,
+    magic: Form,
+    rest: &[u8],
+) -> Result<Result<u64, LoadRefused>, Fail> {
+    let bytes = begun(alloc, magic, rest)?;
+    loaded(alloc, &bytes, form)
 }
 
 #[test]
 fn loads_files_of_any_bytes(rt: HostRuntime) -> Result<(), Fail> {
     let alloc = rt.alloc();
-    let other = Err(LoadRefused::Damaged(Damage::Magic(*b"01234567")));
-    for (form, foreign, magic) in [
-        (Form::One, Form::Two, *b"PADLOG2\n"),
-        (Form::Two, Form::One, *b"PADLOG1\n"),
-    ] {
+    for (form, _, _) in forms() {
         assert_eq!(rt; loaded(alloc, b"", form)?, Ok(0));
         assert_eq!(rt; loaded(alloc, b"any bytes", form)?, Ok(0));
-        assert_eq!(rt; loaded(alloc, b"0123456789", form)?, other);
-        let table: [(&[u8], u64); 6] = [
-            (b"\x01\x00", 0),
-            (b"\x01\x00\x00\x00\x01a\x00", 1),
-            (b"\x01\x00\x00\x00\x01a", 0),
-            (b"\x01\x00\x00\x00\x01a\x00\x00\x00\x00\x01b\x00", 1),
-            (b"\x01\xff\xff\xff\xffa\x00", 0),
-            (b"\x01\xff\xff\xff\xff0123456789abcdefghij", 0),
-        ];
-        for (rest, count) in table {
-            let bytes = begun(alloc, form, rest)?;
-            assert_eq!(rt; loaded(alloc, &bytes, form)?, Ok(count), "{rest:?}");
-        }
-        let foreign = begun(alloc, foreign, b"\x01\x00\x00\x00\x01a\x00")?;
-        let refused = Err(LoadRefused::Damaged(Damage::Magic(magic)));
-        assert_eq!(rt; loaded(alloc, &foreign, form)?, refused);
-    }
-    Ok(())
-}
-
-/// The next of some numbers that look like random ones.
-fn next(number: u64) -> u64 {
-    number
-        .wrapping_mul(6_364_136_223_846_793_005)
-        .wrapping_add(1_442_695_040_888_963_407)
-}
-
-/// A file of this form with what may be entries, and cut somewhere.
-fn random_file(alloc: Global, form: Form, seed: u64) -> Result<Vec<u8>, AllocError> {
-    let mut number = seed;
-    let mut bytes = Vec::new(alloc);
-    bytes.extend_from_slice(form.magic().as_slice())?;
-    for _ in 0..6 {
-        number = next(next(number));
-        let gate = match number >> 60 {
-            0 => 0,
-            1 => 0x37,
-            _ => 1,
-        };
-        let size = ((number >> 33) % 5) as u8;
-        bytes.extend_from_slice(&[gate, 0, 0, 0, size])?;
-        for _ in 0..size {
-            number = next(number);
-            bytes.push(((number >> 33) % 4) as u8)?;
+        for (rest, count) in behind_a_magic() {
+            assert_eq!(rt;
+                loaded_behind(alloc, form, form, rest)?,
+                Ok(count),
+                "{rest:?}"
+            );
         }
     }
-    number = next(number);
-    let length = 8 + ((number >> 40) % 50) as usize;
-    bytes.truncate(length);
-    Ok(bytes)
-}
-
-/// The payloads of a file, read by the table of its bytes.
-fn parsed(alloc: Global, bytes: &[u8]) -> Result<Vec<Vec<u8>>, Fail> {
-    let mut found = Vec::new(alloc);
-    let mut rest: &[u8] = if bytes.len() > 9 { &bytes[8..] } else { b"" };
-    for _ in 0..100 {
-        let Some((head, behind)) = rest.split_at_checked(5) else {
-            return Ok(found);
-        };
-        let size = u32::from_be_bytes([head[1], head[2], head[3], head[4]]) as usize;
-        let Some((payload, next)) = behind.split_at_checked(size) else {
-            return Ok(found);
-        };
-        if head[0] != 1 || next.is_empty() {
-            return Ok(found);
-        }
-        found.push(Vec::from_slice(alloc, payload)?)?;
-        rest = next;
-    }
-    Ok(found)
-}
-
-/// The payload of an index in a file of these bytes, where it has one.
-fn payload_of(
-    alloc: Global,
-    bytes: &[u8],
-    form: Form,
-    index: u64,
-) -> Result<Option<Payload>, Fail> {
-    let mut volume = volume_of(alloc, bytes)?;
-    let log = Log::load(alloc, &mut volume, FILE, form)?;
-    if index < log.count() {
-        return Ok(Some(log.read(alloc, &mut volume, index)?));
-    }
-    Ok(None)
-}
-
-#[test]
-fn loads_what_another_reading_finds(rt: HostRuntime) -> Result<(), Fail> {
-    let alloc = rt.alloc();
-    for seed in 0..60 {
-        let form = if seed % 2 == 0 { Form::One } else { Form::Two };
-        let bytes = random_file(alloc, form, seed)?;
-        let payloads = parsed(alloc, &bytes)?;
-        assert_eq!(rt;
-            loaded(alloc, &bytes, form)?,
-            Ok(payloads.len() as u64),
-            "{bytes:?}"
-        );
-        for (index, payload) in payloads.iter().enumerate() {
-            let Some(found) = payload_of(alloc, &bytes, form, index as u64)? else {
-                return Err("a payload is missing".into());
-            };
-            assert_eq!(rt; found.as_slice(), payload.as_slice(), "{bytes:?}");
-        }
-    }
-    Ok(())
-}
-
-#[test]
-fn reads_a_payload(rt: HostRuntime) -> Result<(), Fail> {
-    let alloc = rt.alloc();
-    let bytes = joined(
-        alloc,
-        &[
-            b"PADLOG1\n\x01\x00\x00\x00\x21",
-            FIRST,
-            b"\x01\x00\x00\x00\x01b\x00",
-        ],
-    )?;
-    let mut volume = volume_of(alloc, &bytes)?;
-    let log = Log::load(alloc, &mut volume, FILE, Form::One)?;
-    assert!(rt; log.count() == 2);
-    let first = log.read(alloc, &mut volume, 0)?;
-    let second = log.read(alloc, &mut volume, 1)?;
-    assert_eq!(rt; first.as_slice(), FIRST);
-    assert_eq!(rt; second.as_slice(), b"b".as_slice());
-    let both = Payloads::new(vec![in alloc; first, second]?);
-    assert_eq!(rt; both.as_slice().len(), 2);
-    Ok(())
-}
-
-#[test]
-fn a_log_that_failed_is_closed(rt: HostRuntime) -> Result<(), Fail> {
-    let alloc = rt.alloc();
-    // Calls 0 to 4 load a log and prime it: a sync, a length, a read, a write and a sync. The second sync of the append
-    // is call 8.
-    let mut volume = MemVolume::new(alloc, vec![in alloc; 8]?);
-    let mut log = Log::load(alloc, &mut volume, FILE, Form::One)?;
-    assert!(rt; !store(alloc, &mut log, &mut volume, FIRST)?);
-    assert!(rt; !log.is_live());
-    let again = Log::load(alloc, &mut volume, FILE, Form::One)?;
-    assert!(rt; again.is_live());
-    assert_eq!(rt; again.count(), 1);
-
-    let mut unsynced = MemVolume::new(alloc, vec![in alloc; 0]?);
-    let refused = Log::load(alloc, &mut unsynced, FILE, Form::One).err();
-    assert_eq!(rt; refused, Some(LoadRefused::Store));
     Ok(())
 }
 
 /// A file of this many empty payloads.
-fn empty_payloads(alloc: Global, form: Form, count: usize) -> Result<Vec<u8>, AllocError> {
-    let mut bytes = Vec::new(alloc);
-    bytes.extend_from_slice(form.magic().as_slice())?;
+fn empty_payloads(alloc: Global, form: Form, count: u64) -> Result<Vec<u8>, AllocError> {
+    let mut bytes = begun(alloc, form, b"")?;
     for _ in 0..count {
         bytes.extend_from_slice(&[1, 0, 0, 0, 0])?;
     }
@@ -366,318 +341,231 @@ fn empty_payloads(alloc: Global, form: Form, count: usize) -> Result<Vec<u8>, Al
     Ok(bytes)
 }
 
-#[test]
-fn holds_so_many_payloads(rt: HostRuntime) -> Result<(), Fail> {
-    let alloc = rt.alloc();
-    let mut volume = volume_of(alloc, &empty_payloads(alloc, Form::One, 1_048_576)?)?;
-    let mut log = Log::load(alloc, &mut volume, FILE, Form::One)?;
-    assert_eq!(rt; log.count(), 1_048_576);
-    assert!(rt; log.room(0, 0));
-    assert!(rt; !log.room(1, 0));
-    log.reserve_one(alloc)?;
-    let Ok(()) = log.prime(&mut volume, 0) else {
-        return Err("the volume failed".into());
-    };
-    let calls = volume.calls();
-    let refused = log.append(&mut volume, &Frame::build(alloc, b"")?).err();
-    assert_eq!(rt; refused, Some(AppendRefused::Full));
-    assert_eq!(rt; volume.calls(), calls);
+/// How a file of this many empty payloads loads.
+fn loaded_with(alloc: Global, form: Form, count: u64) -> Result<Result<u64, LoadRefused>, Fail> {
+    let bytes = empty_payloads(alloc, form, count)?;
+    loaded(alloc, &bytes, form)
+}
 
-    let many = loaded(
-        alloc,
-        &empty_payloads(alloc, Form::One, 1_048_577)?,
-        Form::One,
-    )?;
-    assert_eq!(rt; many, Err(LoadRefused::Damaged(Damage::Many)));
-    let most = empty_payloads(alloc, Form::Two, 1_048_577)?;
-    assert_eq!(rt; loaded(alloc, &most, Form::Two)?, Ok(1_048_577));
-    let many = empty_payloads(alloc, Form::Two, 1_048_578)?;
-    let refused = loaded(alloc, &many, Form::Two)?;
-    assert_eq!(rt; refused, Err(LoadRefused::Damaged(Damage::Many)));
+#[test]
+fn refuses_damaged_files(rt: HostRuntime) -> Result<(), Fail> {
+    let alloc = rt.alloc();
+    for (form, foreign, magic) in forms() {
+        let other = loaded_behind(alloc, form, foreign, b"\x01\x00")?;
+        assert_eq!(rt; other, Err(LoadRefused::Damaged(Damage::Magic(magic))));
+        let most = form.most_entries();
+        assert_eq!(rt; loaded_with(alloc, form, most)?, Ok(most));
+        let many = loaded_with(alloc, form, most.saturating_add(1))?;
+        assert_eq!(rt; many, Err(LoadRefused::Damaged(Damage::Many)));
+    }
     Ok(())
+}
+
+/// The payload of this index.
+fn read(
+    alloc: Global,
+    log: &Log,
+    volume: &mut MemVolume,
+    index: u64,
+) -> Result<Option<Payload>, Fail>
+    requires live { IsTrue log.now.live }
+    requires holds { (payloads : List (List ℕ)) × Stands log.now payloads (disk_of volume.old) }
+    ensures { (payloads : List (List ℕ)) × Stands log.now payloads (disk_of volume.new) }
+{
+    if index >= log.count() {
+        return Ok(None);
+    }
+    Ok(Some(log.read(alloc, volume, index)?))
+}
+
+/// How many calls of the volume a load has made, and then two reads in turn.
+fn calls_of_reads(alloc: Global, volume: &mut MemVolume) -> Result<(u64, u64, u64), Fail> {
+    let log = load(alloc, volume, Form::One)?;
+    let loaded = volume.calls();
+    read(alloc, &log, volume, 0)?;
+    let first = volume.calls();
+    read(alloc, &log, volume, 899_999)?;
+    Ok((loaded, first, volume.calls()))
 }
 
 #[test]
 fn reads_each_payload_in_one_call(rt: HostRuntime) -> Result<(), Fail> {
-    let alloc = rt.alloc();
-    // 4,500,009 bytes: a sync, the length, and 69 reads of at most 65,536.
-    let mut volume = volume_of(alloc, &empty_payloads(alloc, Form::One, 900_000)?)?;
-    let calls = volume.calls();
-    let log = Log::load(alloc, &mut volume, FILE, Form::One)?;
-    assert_eq!(rt; volume.calls(), calls.saturating_add(71));
-    assert!(rt; log.count() == 900_000);
-    let calls = volume.calls();
-    let first = log.read(alloc, &mut volume, 0)?;
-    assert_eq!(rt; volume.calls(), calls.saturating_add(1));
-    let last = log.read(alloc, &mut volume, 899_999)?;
-    assert_eq!(rt; volume.calls(), calls.saturating_add(2));
-    assert_eq!(rt; first.as_slice(), last.as_slice());
+    // 4,500,009 bytes, which a write and a sync put there: a sync, the length, and 69 reads of at most 65,536.
+    let mut volume = volume_with(rt.alloc(), Form::One, 900_000)?;
+    let calls = calls_of_reads(rt.alloc(), &mut volume)?;
+    assert_eq!(rt; calls, (73, 74, 75));
     Ok(())
 }
 
-/// A group of the first payload and two of one letter.
+/// A group of the first payload and two of at most one letter.
 fn group_of_three(alloc: Global) -> Result<Frames, AllocError>
     ensures { IfOk result (λ group. length group ≡ 3) }
 {
-    let first = Payload::new(Vec::from_slice(alloc, FIRST)?);
-    let second = Payload::new(Vec::from_slice(alloc, b"")?);
-    let third = Payload::new(Vec::from_slice(alloc, b"c")?);
-    Frames::build(alloc, &Payloads::new(vec![in alloc; first, second, third]?))
+    let one = Payload::new(Vec::from_slice(alloc, first())?);
+    let two = Payload::new(Vec::new(alloc));
+    let three = Payload::new(Vec::from_slice(alloc, b"c")?);
+    Frames::build(alloc, &Payloads::new(vec![in alloc; one, two, three]?))
 }
 
-/// Appends a group of three with a stop in this call of its four, and answers how many payloads the volume that the stop
-/// left opens as.
-fn group_stopped(alloc: Global, call: u64, pick: Pick) -> Result<u64, Fail> {
-    let mut volume = MemVolume::new(alloc, Vec::new(alloc));
-    let mut log = Log::load(alloc, &mut volume, FILE, Form::Two)?;
-    let group = group_of_three(alloc)?;
+/// A group of two payloads without bytes.
+fn group_of_two(alloc: Global) -> Result<Frames, AllocError>
+    ensures { IfOk result (λ group. length group ≡ 2) }
+{
+    let one = Payload::new(Vec::new(alloc));
+    let two = Payload::new(Vec::new(alloc));
+    Frames::build(alloc, &Payloads::new(vec![in alloc; one, two]?))
+}
+
+/// Appends a group to a primed log.
+fn group_appended(
+    alloc: Global,
+    log: &mut Log,
+    volume: &mut MemVolume,
+    group: &Frames,
+) -> Result<Result<u64, AppendRefused>, AllocError>
+    requires few { length group.now ≤ 3 }
+    requires live { IsTrue log.old.live }
+    requires primed { IsTrue (is_primed log.old) }
+    requires holds { (payloads : List (List ℕ)) × Stands log.old payloads (disk_of volume.old) }
+{
     log.reserve(alloc, 3)?;
-    let Ok(()) = log.prime(&mut volume, group.size()) else {
+    Ok(log.append_group(volume, group))
+}
+
+/// Appends a group to the log of a file, with a stop in this call of it.
+fn store_group(
+    alloc: Global,
+    volume: &mut MemVolume,
+    form: Form,
+    group: &Frames,
+    stop: (u64, Pick),
+) -> Result<Result<u64, AppendRefused>, Fail>
+    requires { length group.now ≤ 3 }
+{
+    let mut log = load(alloc, volume, form)?;
+    if !primed(&mut log, volume) {
         return Err("the volume failed".into());
-    };
-    volume.stop_at(volume.calls().saturating_add(call), pick);
-    if log.append_group(&mut volume, &group).is_ok() {
-        return Err("no call stopped".into());
     }
+    let (call, pick) = stop;
+    volume.stop_at(volume.calls().saturating_add(call), pick);
+    Ok(group_appended(alloc, &mut log, volume, group)?)
+}
+
+/// No test makes so many calls, so no stop comes.
+const NO_STOP: (u64, Pick) = (100, Pick::Old);
+
+/// Appends a group of three, with a stop in this call of it.
+fn store_three(
+    alloc: Global,
+    volume: &mut MemVolume,
+    form: Form,
+    stop: (u64, Pick),
+) -> Result<Result<u64, AppendRefused>, Fail> {
+    let group = group_of_three(alloc)?;
+    store_group(alloc, volume, form, &group, stop)
+}
+
+/// How many payloads what a stop left has.
+fn count_left(alloc: Global, volume: &MemVolume, form: Form) -> Result<u64, Fail> {
     let mut image = volume.image(alloc)?;
-    Ok(Log::load(alloc, &mut image, FILE, Form::Two)?.count())
+    Ok(count_in(alloc, &mut image, form)?)
+}
+
+/// The same, after a stop in this call of the append of a group of three, which was refused.
+fn group_stopped(alloc: Global, form: Form, stop: (u64, Pick)) -> Result<Option<u64>, Fail> {
+    let mut volume = empty_volume(alloc);
+    if store_three(alloc, &mut volume, form, stop)? == Err(AppendRefused::Store) {
+        return Ok(Some(count_left(alloc, &volume, form)?));
+    }
+    Ok(None)
 }
 
 #[test]
 fn a_group_stands_under_one_gate(rt: HostRuntime) -> Result<(), Fail> {
-    let alloc = rt.alloc();
-    let picks = [Pick::Old, Pick::New, Pick::Torn(0x37), Pick::Torn(1)];
-    let counts = [[0, 0, 0, 0], [0, 0, 0, 0], [0, 3, 0, 3], [0, 3, 0, 3]];
-    for (call, counts) in counts.iter().enumerate() {
-        for (pick, count) in picks.iter().zip(counts) {
-            let stored = group_stopped(alloc, call as u64, *pick)?;
-            assert_eq!(rt; stored, *count, "a stop in call {call} with {pick:?}");
+    let picks = picks();
+    for call in 0..8 {
+        for (number, pick) in picks.iter().enumerate() {
+            let form = if call < 4 { Form::One } else { Form::Two };
+            let held = left_by_a_stop(0, 3, call % 4, number);
+            let count = group_stopped(rt.alloc(), form, (call % 4, *pick))?;
+            assert_eq!(rt; count, Some(held), "{form:?}, call {call}, {pick:?}");
         }
     }
-
-    let mut volume = MemVolume::new(alloc, Vec::new(alloc));
-    let mut log = Log::load(alloc, &mut volume, FILE, Form::One)?;
-    let group = group_of_three(alloc)?;
-    log.reserve(alloc, 3)?;
-    let Ok(()) = log.prime(&mut volume, group.size()) else {
-        return Err("the volume failed".into());
-    };
-    let calls = volume.calls();
-    let Ok(index) = log.append_group(&mut volume, &group) else {
-        return Err("the volume failed".into());
-    };
-    assert_eq!(rt; index, 0);
-    assert_eq!(rt; volume.calls(), calls.saturating_add(4));
-    let three = joined(
-        alloc,
-        &[
-            b"PADLOG1\n\x01\x00\x00\x00\x21",
-            FIRST,
-            b"\x01\x00\x00\x00\x00\x01\x00\x00\x00\x01c\x00",
-        ],
-    )?;
-    assert_eq!(rt; bytes_of(alloc, &mut volume)?, three);
     Ok(())
+}
+
+/// The bytes of a file of form Two where a group of three was appended.
+fn bytes_of_three(alloc: Global) -> Result<Vec<u8>, Fail> {
+    let mut volume = empty_volume(alloc);
+    if store_three(alloc, &mut volume, Form::Two, NO_STOP)? == Ok(0) {
+        return bytes_of(alloc, &mut volume);
+    }
+    Err("the group was refused".into())
+}
+
+#[test]
+fn a_group_is_its_entries(rt: HostRuntime) -> Result<(), Fail> {
+    let alloc = rt.alloc();
+    let bytes = bytes_of_three(alloc)?;
+    let behind: &[u8] = b"\x01\x00\x00\x00\x00\x01\x00\x00\x00\x01c\x00";
+    let wanted = joined(alloc, &[b"PADLOG2\n\x01", first_size(), first(), behind])?;
+    assert_eq!(rt; bytes, wanted);
+    Ok(())
+}
+
+/// A volume with a file of so many empty payloads.
+fn volume_with(alloc: Global, form: Form, count: u64) -> Result<MemVolume, Fail> {
+    let bytes = empty_payloads(alloc, form, count)?;
+    volume_of(alloc, &bytes)
+}
+
+/// Appends a group of two to the log of a file of form One.
+fn store_two(alloc: Global, volume: &mut MemVolume) -> Result<Result<u64, AppendRefused>, Fail> {
+    let group = group_of_two(alloc)?;
+    store_group(alloc, volume, Form::One, &group, NO_STOP)
+}
+
+/// The same, where the log has this many empty payloads.
+fn two_more(alloc: Global, count: u64) -> Result<Result<u64, AppendRefused>, Fail> {
+    let mut volume = volume_with(alloc, Form::One, count)?;
+    store_two(alloc, &mut volume)
 }
 
 #[test]
 fn a_group_fits_whole_or_not_at_all(rt: HostRuntime) -> Result<(), Fail> {
-    let alloc = rt.alloc();
-    let mut volume = volume_of(alloc, &empty_payloads(alloc, Form::One, 1_048_574)?)?;
-    let mut log = Log::load(alloc, &mut volume, FILE, Form::One)?;
-    let group = group_of_three(alloc)?;
-    log.reserve(alloc, 3)?;
-    // Its last gate is closed, so it is primed as it was loaded, and this makes no call.
-    let calls = volume.calls();
-    let Ok(()) = log.prime(&mut volume, group.size()) else {
-        return Err("the volume failed".into());
-    };
-    let refused = log.append_group(&mut volume, &group).err();
-    assert_eq!(rt; refused, Some(AppendRefused::Full));
-    assert_eq!(rt; volume.calls(), calls);
+    let full = two_more(rt.alloc(), 1_048_575)?;
+    assert_eq!(rt; full, Err(AppendRefused::Full));
+    let stored = two_more(rt.alloc(), 1_048_574)?;
+    assert_eq!(rt; stored, Ok(1_048_574));
     Ok(())
 }
 
-/// Restarts a log of two payloads with a stop in this call, and answers how many payloads the volume that the stop left
-/// opens as.
-fn restart_stopped(alloc: Global, call: u64, pick: Pick) -> Result<u64, Fail> {
-    let bytes = begun(
-        alloc,
-        Form::Two,
-        b"\x01\x00\x00\x00\x01a\x01\x00\x00\x00\x01b\x00",
-    )?;
-    let mut volume = volume_of(alloc, &bytes)?;
-    let log = Log::load(alloc, &mut volume, FILE, Form::Two)?;
-    if log.count() != 2 {
-        return Err("the log has not two payloads".into());
-    }
-    volume.stop_at(volume.calls().saturating_add(call), pick);
-    if Log::restart(alloc, &mut volume, FILE).is_ok() {
-        return Ok(0);
-    }
-    let mut image = volume.image(alloc)?;
-    Ok(Log::load(alloc, &mut image, FILE, Form::Two)?.count())
+/// Restarts the log of a file with a stop in this call, and says whether that answered `Ok`.
+fn restart(alloc: Global, volume: &mut MemVolume, stop: (u64, Pick)) -> Result<bool, Fail> {
+    settle(volume, FILE)?;
+    volume.stop_at(volume.calls().saturating_add(stop.0), stop.1);
+    Ok(Log::restart(alloc, volume, FILE).is_ok())
+}
+
+/// Whether a log of two payloads was restarted, with a stop in this call, and how many payloads are left.
+fn restarted(alloc: Global, stop: (u64, Pick)) -> Result<(bool, u64), Fail> {
+    let mut volume = volume_with(alloc, Form::Two, 2)?;
+    let made = restart(alloc, &mut volume, stop)?;
+    Ok((made, count_left(alloc, &volume, Form::Two)?))
 }
 
 #[test]
 fn a_restart_leaves_a_front(rt: HostRuntime) -> Result<(), Fail> {
-    let alloc = rt.alloc();
-    // A cut, and a sync.
-    for call in 0..2 {
-        assert_eq!(rt; restart_stopped(alloc, call, Pick::Old)?, 2);
-        assert_eq!(rt; restart_stopped(alloc, call, Pick::New)?, 0);
+    // A cut, a sync, and then nothing more.
+    for (call, pick, answer) in [
+        (0, Pick::Old, (false, 2)),
+        (0, Pick::New, (false, 0)),
+        (1, Pick::Old, (false, 2)),
+        (1, Pick::New, (false, 0)),
+        (2, Pick::Old, (true, 0)),
+    ] {
+        let left = restarted(rt.alloc(), (call, pick))?;
+        assert_eq!(rt; left, answer);
     }
-    assert_eq!(rt; restart_stopped(alloc, 2, Pick::Old)?, 0);
-    Ok(())
-}
-
-/// A volume that tells nothing. Its one file has so many bytes, these and then zeros, and a read gives none from a place
-/// on.
-#[derive(Debug, Drop)]
-struct Untold {
-    head: Vec<u8>,
-    size: u64,
-    given: u64,
-    calls: u64,
-}
-
-impl Untold {
-    fn new(alloc: Global, head: &[u8], size: u64, given: u64) -> Result<Untold, AllocError> {
-        Ok(Untold {
-            head: Vec::from_slice(alloc, head)?,
-            size,
-            given,
-            calls: 0,
-        })
-    }
-}
-
-impl Volume for Untold {
-    ghost tells = { ⊥ };
-
-    ghost disk = { λ _. began (λ _. []) };
-
-    ghost clock = { λ volume. volume.calls };
-
-    ghost faults = { λ _. 0 };
-
-    ghost follows = { λ _ _. Unit {0} };
-
-    ghost follows_itself = { λ _. tt };
-
-    ghost follows_on = { λ _ _ _ _ _. tt };
-
-    ghost as_it_reads = { λ _ told. absurd told };
-
-    fn root(&mut self, _folder: &str) -> Result<(), Failed> {
-        self.calls = self.calls.saturating_add(1);
-        Ok(())
-    }
-
-    fn length(&mut self, _file: &str) -> Result<u64, Failed> {
-        self.calls = self.calls.saturating_add(1);
-        Ok(self.size)
-    }
-
-    fn read_at(&mut self, _file: &str, at: u64, buf: &mut [u8]) -> Result<usize, Failed> {
-        self.calls = self.calls.saturating_add(1);
-        let left = self.size.min(self.given).saturating_sub(at);
-        let count = left.min(buf.len() as u64) as usize;
-        for (place, byte) in buf.iter_mut().enumerate() {
-            let place = at.saturating_add(place as u64) as usize;
-            *byte = self.head.get(place).copied().unwrap_or(0);
-        }
-        Ok(count)
-    }
-
-    fn write_at(&mut self, _file: &str, at: u64, piece: &[u8]) -> Result<(), Failed> {
-        self.calls = self.calls.saturating_add(1);
-        self.size = self.size.max(at.saturating_add(piece.len() as u64));
-        Ok(())
-    }
-
-    fn cut(&mut self, _file: &str, to: u64) -> Result<(), Failed> {
-        self.calls = self.calls.saturating_add(1);
-        self.size = to;
-        Ok(())
-    }
-
-    fn sync(&mut self, _file: &str) -> Result<(), Failed> {
-        self.calls = self.calls.saturating_add(1);
-        Ok(())
-    }
-}
-
-#[test]
-fn holds_so_many_bytes(rt: HostRuntime) -> Result<(), Fail> {
-    let alloc = rt.alloc();
-    let mut long = Untold::new(alloc, b"PADLOG1\n\x00", 1_073_741_825, u64::MAX)?;
-    let refused = Log::load(alloc, &mut long, FILE, Form::One).err();
-    assert_eq!(rt;
-        refused,
-        Some(LoadRefused::Damaged(Damage::Long(1_073_741_825)))
-    );
-
-    let mut long = Untold::new(alloc, b"PADLOG2\n\x00", 1_090_519_041, u64::MAX)?;
-    let refused = Log::load(alloc, &mut long, FILE, Form::Two).err();
-    assert_eq!(rt;
-        refused,
-        Some(LoadRefused::Damaged(Damage::Long(1_090_519_041)))
-    );
-
-    // One payload of 2^30 - 29 bytes, and its last gate at 2^30 - 16.
-    let mut volume = Untold::new(
-        alloc,
-        b"PADLOG1\n\x01\x3f\xff\xff\xe3",
-        1_073_741_809,
-        u64::MAX,
-    )?;
-    let mut log = Log::load(alloc, &mut volume, FILE, Form::One)?;
-    assert_eq!(rt; log.count(), 1);
-    assert!(rt; log.room(1, 10));
-    assert!(rt; log.room(2, 5));
-    assert!(rt; !log.room(1, 11));
-    assert!(rt; !log.room(2, 6));
-    log.reserve_one(alloc)?;
-    let Ok(()) = log.prime(&mut volume, 0) else {
-        return Err("the volume failed".into());
-    };
-    let Err(AppendRefused::Full) = log.append(&mut volume, &Frame::build(alloc, b"elevenbytes")?)
-    else {
-        return Err("the log is not full".into());
-    };
-    assert_eq!(rt; volume.size, 1_073_741_809);
-    let Ok(index) = log.append(&mut volume, &Frame::build(alloc, b"ten bytes.")?) else {
-        return Err("the log is full".into());
-    };
-    assert_eq!(rt; index, 1);
-    assert_eq!(rt; volume.size, 1_073_741_824);
-    Ok(())
-}
-
-#[test]
-fn takes_the_bytes_that_come(rt: HostRuntime) -> Result<(), Fail> {
-    let alloc = rt.alloc();
-    // Two entries, with gates at 8, 16 and 26.
-    let head = b"PADLOG1\n\x01\x00\x00\x00\x03abc\x01\x00\x00\x00\x05defgh\x00";
-    for (given, count) in [(27, 2), (26, 1), (17, 1), (16, 0), (9, 0), (0, 0)] {
-        let mut volume = Untold::new(alloc, head, 27, given)?;
-        let log = Log::load(alloc, &mut volume, FILE, Form::One)?;
-        assert_eq!(rt; log.count(), count, "{given} bytes given");
-    }
-
-    // One entry of 70,000 bytes, whose last gate, at 70,013, comes or does not.
-    for (given, count) in [(70_014, 1), (70_013, 0)] {
-        let mut volume = Untold::new(alloc, b"PADLOG1\n\x01\x00\x01\x11\x70", 70_014, given)?;
-        let log = Log::load(alloc, &mut volume, FILE, Form::One)?;
-        assert_eq!(rt; log.count(), count, "{given} bytes given");
-    }
-
-    let mut volume = Untold::new(alloc, head, 27, 27)?;
-    let log = Log::load(alloc, &mut volume, FILE, Form::One)?;
-    assert!(rt; log.count() == 2);
-    volume.given = 24;
-    let payload = log.read(alloc, &mut volume, 1)?;
-    assert_eq!(rt; payload.as_slice(), b"def".as_slice());
     Ok(())
 }
