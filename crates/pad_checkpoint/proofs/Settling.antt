@@ -1,0 +1,93 @@
+-- How the root moves.
+use Rattle.std.proofs.Common.{◌≡◌, ℕ, List, [], ◌∷◌, ◌++◌, Option, Some, None, drop, Bool, true, false, refl, sym, ap, ◌∙◌, subst, append_assoc}
+use Rattle.std.specs.Prelude.{if◌then◌else◌}
+use Rattle.pad_message.specs.Kind.{is_checkpoint}
+use Rattle.pad_text.specs.declared.name.Name.{Name}
+use Rattle.pad_message.specs.declared.message.Message.{Message}
+use Rattle.pad_graph.specs.Chain.{Link, top, IsChain, GoesThrough, IsKeptName, IsGoneName}
+use Rattle.pad_graph.specs.Count.{IsNumberOf}
+use Rattle.pad_graph.specs.State.{State}
+use Rattle.pad_graph.specs.Graph.{Stands, AreDropped, IsDropped}
+use Rattle.pad_graph.specs.Laws.{ChainsAreOne}
+use Rattle.pad_model.specs.declared.base.Base.{Base}
+use Rattle.pad_model.specs.Path.{IsLinkedPath}
+use Rattle.pad_model.specs.Choice.{to_checkpoint, cut, higher}
+use Rattle.pad_model.proofs.CallerLemmas.{contains_none, linked_below}
+use Rattle.pad_checkpoint.specs.declared.place.Place.{Place}
+use Rattle.pad_checkpoint.specs.declared.path_mark.PathMark.{PathMark}
+use Rattle.pad_checkpoint.specs.Place.{place_of}
+use Rattle.pad_checkpoint.specs.Cut.{last_but_one}
+use Rattle.pad_checkpoint.specs.Links.{names_of}
+use Rattle.pad_checkpoint.specs.Settled.{IsRooted, IsSettled}
+use Rattle.pad_checkpoint.proofs.CutLemmas.{higher_is, higher_none, higher_some}
+use Rattle.pad_checkpoint.proofs.LinkLemmas.{top_names, chain_of}
+
+-- nothing is dropped where the root stays
+none_dropped : ChainsAreOne → (state : State) (base : Name) (links : List Link) (names : List Name) → Stands state base links names → IsNumberOf (IsDropped base links names names) 0
+none_dropped one state base links names h = record { all = []; once = tt; these = λ x. (λ c. absurd (contains_none x c), λ p. absurd (both x p.1.0 p.1.1 p.1.2)); many = refl }
+  where
+    both : (x : Name) (height : ℕ) → IsKeptName base links names x height → IsGoneName base links names x height → ⊥
+    both x height k g = g.4 (subst (GoesThrough names) (one base links k.0 g.0 h.differ k.1 g.1 (k.2 ∙ sym g.2)) k.4)
+
+-- a path ends in the part up to its last checkpoint
+ends : (p : List Message) → (w : List Message) × (p ≡ w ++ to_checkpoint p)
+ends [] = ([], refl)
+ends (m ∷ p) = go (is_checkpoint m.kind) (ends p)
+  where
+    go : (t : Bool) → (w : List Message) × (p ≡ w ++ to_checkpoint p) → (w : List Message) × (m ∷ p ≡ w ++ (if t then m ∷ p else to_checkpoint p))
+    go true e = ([], refl)
+    go false (w, e) = (m ∷ w, ap (λ q. m ∷ q) e)
+
+ends_drop : (p : List Message) → (w : List Message) × (p ≡ w ++ drop 1 p)
+ends_drop [] = ([], refl)
+ends_drop (m ∷ p) = (m ∷ [], refl)
+
+ends_cut : (p : List Message) → (w : List Message) × (p ≡ w ++ cut p)
+ends_cut p = go (ends p) (ends_drop (to_checkpoint p)) (ends (drop 1 (to_checkpoint p)))
+  where
+    go : (w : List Message) × (p ≡ w ++ to_checkpoint p) → (w : List Message) × (to_checkpoint p ≡ w ++ drop 1 (to_checkpoint p)) → (w : List Message) × (drop 1 (to_checkpoint p) ≡ w ++ cut p) → (w : List Message) × (p ≡ w ++ cut p)
+    go (u, e) (v, f) (w, g) = (u ++ (v ++ w), e ∙ ap (λ q. u ++ q) (f ∙ ap (λ q. v ++ q) g ∙ sym (append_assoc v w (cut p))) ∙ sym (append_assoc u (v ++ w) (cut p)))
+
+module _ (b : Base) (R root above : List Message) (links : List Link) (place : Place) (marks : List PathMark) (state : State) (r : IsRooted b R root above links place marks state) where
+  abbrev next : List Message
+  next = higher root (cut (above ++ root))
+
+  pub stays : ChainsAreOne → None ≡ last_but_one marks → IsSettled b links root next place state 0
+  stays one none = subst (λ q. IsSettled b links root q place state 0) (sym (higher_none b root above (none ∙ ap last_but_one r.are_marks))) (record {
+    at_root = r.at_root;
+    stands = r.stands;
+    count = none_dropped one state b.name links (names_of root) r.stands;
+    lent = λ n. absurd (n refl);
+  })
+
+  next_linked : IsLinkedPath b R next
+  next_linked = subst (IsLinkedPath b R) (sym (higher_is b root above)) (go (ends_cut above))
+    where
+      go : (w : List Message) × (above ≡ w ++ cut above) → IsLinkedPath b R (cut above ++ root)
+      go (w, e) = linked_below b R w (cut above ++ root) (subst (IsLinkedPath b R) (ap (λ q. q ++ root) e ∙ append_assoc w (cut above) root) r.linked)
+
+  module _ (mark : PathMark) (some : Some mark ≡ last_but_one marks) (new : State) (many : ℕ) where
+    at_next : mark.place ≡ place_of b next
+    at_next = higher_some b root above mark (some ∙ ap last_but_one r.are_marks)
+
+    chain : IsChain b.name links (names_of next)
+    chain = chain_of b R links r.links_of next next_linked
+
+    is_top : top b.name (names_of next) ≡ mark.place.name
+    is_top = top_names b next ∙ ap (λ (p : Place). p.name) (sym at_next)
+
+    pub moves : ((base : Name) (ls : List Link) (below names : List Name) → Stands state base ls below → IsChain base ls names → top base names ≡ mark.place.name → Stands new base ls names)
+        → ((base : Name) (ls : List Link) (below names : List Name) → Stands state base ls below → IsChain base ls names → top base names ≡ mark.place.name → AreDropped base ls below names new.dropped)
+        → ((base : Name) (ls : List Link) (below names : List Name) → Stands state base ls below → IsChain base ls names → top base names ≡ mark.place.name → IsNumberOf (IsDropped base ls below names) many)
+        → IsSettled b links root next mark.place new many
+    moves stands dropped count = record {
+      at_root = at_next;
+      stands = stands b.name links (names_of root) (names_of next) r.stands chain is_top;
+      count = count b.name links (names_of root) (names_of next) r.stands chain is_top;
+      lent = λ _. dropped b.name links (names_of root) (names_of next) r.stands chain is_top;
+    }
+
+-- what is not some is none
+pub none_if : (o : Option PathMark) → ((mark : PathMark) → o ≡ Some mark → ⊥) → o ≡ None
+none_if None h = refl
+none_if (Some mark) h = absurd (h mark refl)
