@@ -1,0 +1,15 @@
+mod Apart
+mod Choosing
+mod Forks
+mod Growing
+mod Growth
+mod Known
+mod Levels
+mod Marking
+mod Places
+mod Rewinding
+mod Trunk
+mod Turn
+mod Turns
+mod Undone
+mod Way

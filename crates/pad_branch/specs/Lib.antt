@@ -1,0 +1,9 @@
+pub mod Branch
+pub mod Choice
+pub mod Held
+pub mod Inside
+pub mod Laws
+pub mod Move
+pub mod Pathless
+pub mod Tip
+pub mod Undo
