@@ -1,5 +1,5 @@
 -- The turns of the choice, over the tables.
-use Rattle.std.proofs.Common.{◌≡◌, ℕ, suc, ◌+◌, ◌-◌, ◌*◌, ◌<◌, ◌≤◌, List, [], ◌∷◌, ◌++◌, length, reverse, Some, None, slice_get, Contains, All, Bool, true, false, ◌||◌, add-one, refl, sym, ap, ◌∙◌, subst, arith, length-append}
+use Rattle.std.proofs.Common.{Option, ◌≡◌, ℕ, suc, ◌+◌, ◌-◌, ◌*◌, ◌<◌, ◌≤◌, List, [], ◌∷◌, ◌++◌, length, reverse, Some, None, slice_get, Contains, All, Bool, true, false, ◌||◌, add-one, refl, sym, ap, ◌∙◌, subst, arith, length-append}
 use Rattle.std.specs.BTreeMap.{BTreeMap, get}
 use Rattle.std.specs.BTreeSet.{BTreeSet, contains}
 use Rattle.std.specs.List.Sorted.{IsSorted}
@@ -19,9 +19,9 @@ use Rattle.pad_model.specs.Path.{last_name, IsLinkedPath, EachSound}
 use Rattle.pad_model.specs.Choice.{IsBestThrough}
 use Rattle.pad_branch.specs.Pathless.{KnowsPathless, AreFound, pathless_in}
 use Rattle.pad_branch.specs.Inside.Passing.{PassesOn, IsLinkedThrough}
-use Rattle.pad_branch.specs.Branch.{IsStopped, IsWon}
+use Rattle.pad_branch.specs.Branch.{State, IsStopped, IsWon}
 use Rattle.pad_branch.specs.Inside.Candidates.{candidate_cmp, IsCandidate, AreReady, NoPathIn}
-use Rattle.pad_branch.specs.Held.{mark_of}
+use Rattle.pad_branch.specs.Held.{mark_of, marks}
 use Rattle.pad_branch.proofs.Turn.{skipped, stopped, stands, is_new, knows_more, finds_more}
 use Rattle.pad_branch.proofs.Choosing.{wins, stays_best, none_more}
 use Rattle.pad_model.proofs.CallerLemmas.{linked_below}
@@ -45,17 +45,17 @@ cost_same depth n start before b =
     let e : 3 * depth * (n + 1) ≡ 3 * depth * n + 3 * depth = ap (λ k. 3 * depth * k) (add-one n) ∙ mul-suc (3 * depth) n in
     omega (arith, e, b)
 
-module _ (b : Base) (R : List Message) (m : Message) (below chosen : List Message) (table : Name → Option Held) (undos : List Undo) (root : Tip) (low : ℕ) (units : List ℕ) (tip : Tip) (found : List Name) (xs : List Candidate) (ready : AreReady b R m below chosen table undos root low units tip found xs) where
+module _ (b : Base) (R : List Message) (m : Message) (below chosen : List Message) (branch : State) (table : Name → Option Held) (children : Name → List Name) (longest : ℕ) (found : List Name) (xs : List Candidate) (ready : AreReady b R m below chosen branch table children longest found xs) where
   pub start : (doomed : BTreeSet Name) → doomed.keys ≡ [] → KnowsPathless b (m ∷ R) below (pathless_in table doomed) × AreFound b (m ∷ R) below (pathless_in table doomed) found
   start doomed e =
-      let same : (λ (name : Name). mark_of (table name)) ≡ pathless_in table doomed = λ i name. none_more_marked table doomed e name i in
+      let same : marks table ≡ pathless_in table doomed = λ i name. none_more_marked table doomed e name i in
       (subst (KnowsPathless b (m ∷ R) below) same ready.knows, subst (λ pathless. AreFound b (m ∷ R) below pathless found) same ready.are)
 
   module _ (i : ℕ) (c : Candidate) (at : slice_get xs i ≡ Some c) where
     pub item : IsCandidate b (m ∷ R) below chosen c
     item = All-contains (IsCandidate b (m ∷ R) below chosen) xs c ready.offered.each (i, slice_get_within xs i c at, get_or_from_slice_get xs i c c at)
 
-    pub high : length (item.last ∷ item.rest) ≡ c.height.0 - low
+    pub high : length (item.last ∷ item.rest) ≡ c.height.0 - branch.low
     high = omega (arith, item.high, ready.trunk.height, length-append (item.last ∷ item.rest) below)
 
     pub last : last_name b (item.last ∷ item.rest ++ below) ≡ c.name
