@@ -11,7 +11,7 @@ use Rattle.pad_message.specs.Message.{name_of}
 use Rattle.pad_model.specs.Path.{last_name, IsLinkedPath, EachSound, NamesDiffer}
 use Rattle.pad_model.specs.Choice.{RunsThrough, to_checkpoint, cut, higher}
 use Rattle.pad_branch.specs.Pathless.{KnowsPathless, AreFound, IsFirstUnsound}
-use Rattle.pad_branch.specs.Laws.{NoCheckpoint, RootStays, StaysKnown, KnownAbove, FoundStays, MarksPass}
+use Rattle.pad_branch.specs.Laws.{NoCheckpoint, RootStays, StaysKnown, KnownAbove, FoundStays, FoundAbove, MarksPass}
 use Rattle.pad_branch.proofs.Choosing.{Passes, linked_new}
 use Rattle.pad_model.proofs.CallerLemmas.{linked_unique, linked_below, linked_more, sound_below, contains_more}
 
@@ -166,3 +166,10 @@ marks_pass b R root m pathless after d root_linked k parent_marked not_linked th
     passed x p h t (inr c) w = subst (λ q. after (last_name b q) ≡ true) (sym c.whole) (new c.above c.under (subst (IsLinkedPath b (m ∷ R)) c.whole h))
     passed x p h t (inl old) (inl w) = still (name_of x) (k.passed x p old t w)
     passed x p h t (inl old) (inr w) = absurd (apart p w.0 w.1 old.1 w.2 w.3)
+
+pub found_above : FoundAbove
+found_above b R root high pathless found are through = record {
+  once = are.once;
+  each = are.each;
+  marked = λ n x p c named h t. are.marked n x p c named h (t.0 ++ through.0, t.1 ∙ ap (λ q. t.0 ++ q) through.1 ∙ sym (append_assoc t.0 through.0 root));
+}

@@ -8,6 +8,7 @@ mod Levels
 mod Marking
 mod Places
 mod Rewinding
+mod Rising
 mod Trunk
 mod Turn
 mod Turns

@@ -39,7 +39,7 @@ pub undos_named : (b : Base) (below chosen : List Message) (us : List Undo) → 
 undos_named b below [] us h = sym (ap (map undone_name) h)
 undos_named b below (m ∷ chosen) us h = ap₂ ◌∷◌ (sym h.3.after.name) (undos_named b below chosen h.1 h.4) ∙ sym (ap (map undone_name) h.2)
 
-drop_first : {A : Type 0} (xs ys : List A) → drop (length xs) (xs ++ ys) ≡ ys
+pub drop_first : {A : Type 0} (xs ys : List A) → drop (length xs) (xs ++ ys) ≡ ys
 drop_first [] ys = refl
 drop_first (x ∷ xs) ys = drop_first xs ys
 
@@ -47,7 +47,7 @@ take_first : {A : Type 0} (xs ys : List A) → take (length xs) (xs ++ ys) ≡ x
 take_first [] ys = refl
 take_first (x ∷ xs) ys = ap (λ q. x ∷ q) (take_first xs ys)
 
-turned : {A : Type 0} (xs : List A) (k : ℕ) → reverse (drop k xs) ++ reverse (take k xs) ≡ reverse xs
+pub turned : {A : Type 0} (xs : List A) (k : ℕ) → reverse (drop k xs) ++ reverse (take k xs) ≡ reverse xs
 turned xs k = sym (reverse-append (take k xs) (drop k xs)) ∙ ap reverse (take-append-drop k xs)
 
 -- the newest first, what the first k are is what is left without the others
