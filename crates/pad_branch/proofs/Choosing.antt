@@ -45,7 +45,7 @@ linked_new b R m (x ∷ p) h = go (contains_cases m R x h.0.member) (linked_new 
     go (inr c) (inl old) = inl (record { member = c; not_base = h.0.not_base; parent = h.0.parent }, old)
     go (inr c) (inr s) = inr (record { above = x ∷ s.above; under = s.under; whole = ap (λ q. x ∷ q) s.whole })
 
-at_of : {A : Type 0} (xs : List A) (x : A) → Contains xs x → (i : ℕ) × (slice_get xs i ≡ Some x)
+pub at_of : {A : Type 0} (xs : List A) (x : A) → Contains xs x → (i : ℕ) × (slice_get xs i ≡ Some x)
 at_of xs x (i, h, e) = (i, slice_get-get_or xs i x h ∙ ap Some e)
 
 module _ (b : Base) (R : List Message) (m : Message) (below chosen : List Message) (xs : List Candidate) (o : IsOffered b R m below chosen xs) where

@@ -1,4 +1,5 @@
 mod Apart
+mod Better
 mod Choosing
 mod Forks
 mod Growing

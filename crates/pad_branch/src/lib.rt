@@ -39,7 +39,7 @@ pub use laws::{
     found_above, found_stays, known_above, marks_pass, root_stays, root_text, stays_known,
     trunk_stays,
 };
-pub use moved::Move;
+pub use moved::{Move, applied, reverted};
 pub use plan::Plan;
 pub use tip::Tip;
 pub use undo::Undo;

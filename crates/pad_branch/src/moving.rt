@@ -15,13 +15,14 @@ pub(crate) fn unwind(undos: &mut Vec<Undo>, keep: usize, reverted: &mut Vec<Move
     ensures reverted { reverted.new.items ≡ reverted.old.items ++ map move_back (take (length undos.old.items - keep) (reverse undos.old.items)) }
 {
     while keep < undos.len() {
-        if let Some(undo) = undos.pop() {
-            reverted.push_reserved(Move {
-                name: undo.after.name,
-                kind: undo.kind,
-                patch: undo.inverse,
-            });
-        }
+        let Some(undo) = undos.pop() else {
+            return;
+        };
+        reverted.push_reserved(Move {
+            name: undo.after.name,
+            kind: undo.kind,
+            patch: undo.inverse,
+        });
     }
 }
 

@@ -33,6 +33,17 @@ candidate_of linking = record { height = record { 0 = linking.height }; name = l
 abbrev pub Betters : Linking → Name → ℕ → Type 0
 Betters linking name height = (height < linking.height) ⊎ ((linking.height ≡ height) × NameLess linking.name name)
 
+-- and is not longer than `longest`
+abbrev pub BettersWithin : Linking → Name → ℕ → ℕ → Type 0
+BettersWithin linking name height longest = (linking.height ≤ longest) × Betters linking name height
+
+-- it is that of a linking that does
+pub record IsOneOf (linkings : List Linking) (name : Name) (height longest : ℕ) (candidate : Candidate) : Type 0 where
+  pub linking : Linking
+  pub among : Contains linkings linking
+  pub is : candidate ≡ candidate_of linking
+  pub betters : BettersWithin linking name height longest
+
 -- a linked path through the root `below` that betters the best branch, by length and last name
 pub record IsCandidate (base : Base) (received below chosen : List Message) (candidate : Candidate) : Type 0 where
   pub last : Message
