@@ -1,0 +1,13 @@
+use Rattle.std.proofs.Common.{List, ℕ, sym, subst}
+use Rattle.log_format.specs.declared.form.Form.TheVariants.{One, Two}
+use Rattle.keeper_channel.specs.Slot.{IsAdded, IsMoved}
+use Rattle.keeper_channel.proofs.storing.store_live.Goals as goal
+
+pub returns-in-Moved-clause-added : goal.returns-in-Moved-clause-added
+returns-in-Moved-clause-added g c = λ told held suspense is.
+    let O = g.O.Ledger in let G = g.G.Ledger in let log = c.in-Moved.log in
+    let old = g.V.Volume.disk c.args.volume.now in let new = g.V.Volume.disk c.store_new.new.volume in
+    let named = (rw c.in-Moved.is at c.requires.made).0 in
+    let R : List ℕ → Type 0 = λ n. IsAdded (O.opens_as One c.args.one.now) (G.opens_as Two n) (G.doubt Two n) O.holds G.holds held suspense c.args.frame.now c.store_new.result.slot c.store_new.result.answer old new in
+    let there = subst (λ (n : List ℕ). IsMoved G.holds (G.doubt Two n) log held suspense old) (sym named) (rw c.in-Moved.is at is) in
+    subst R named (c.store_new.ensures.added told held suspense there)

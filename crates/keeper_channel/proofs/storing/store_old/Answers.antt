@@ -1,0 +1,70 @@
+use Rattle.std.proofs.Common.{◌≡◌, ◌∙◌, ◌⊎◌, inl, List, ℕ, [], ◌∷◌, ◌++◌, sym, subst}
+use Rattle.disk_volume.specs.Disk.{reads}
+use Rattle.disk_volume.specs.Moments.{moment, Grew, EachSince}
+use Rattle.disk_volume.specs.Lemmas.Since.{each_then, grew_then, since_now}
+use Rattle.keeper_channel.specs.Chan.{moved, IsList, IsWithin}
+use Rattle.log_format.specs.declared.form.Form.{Form}
+use Rattle.log_format.specs.declared.form.Form.TheVariants.{One, Two}
+use Rattle.keeper_channel.specs.Slot.{IsAdded}
+use Rattle.keeper_channel.proofs.Chans.{moved_marked, moved_without}
+use Rattle.keeper_channel.proofs.storing.store_old.Goals as goal
+
+pub migrate-requires-clause-holds : goal.migrate-requires-clause-holds
+migrate-requires-clause-holds g c = λ told. let is = (c.requires.holds told).2 in (is.old, is.holds_old)
+
+pub migrate-requires-clause-rests : goal.migrate-requires-clause-rests
+migrate-requires-clause-rests g c = λ told.
+    let is = (c.requires.holds told).2 in let disk = g.V.Volume.disk c.args.volume.now in
+    subst (λ (n : List ℕ). g.G.Ledger.rests Two n disk) c.requires.named_two
+    (subst (λ (f : Form). g.G.Ledger.rests f (g.G.Ledger.name c.args.loaded) disk) c.requires.form_two (g.met.G.Ledger.holds_rests c.args.loaded is.new disk is.holds_new))
+
+pub migrate-requires-clause-unmarked : goal.migrate-requires-clause-unmarked
+migrate-requires-clause-unmarked g c = λ told.
+    let is = (c.requires.holds told).2 in let disk = g.V.Volume.disk c.args.volume.now in (
+      is.new,
+      subst (λ (n : List ℕ). g.G.Ledger.opens_as Two n (reads disk) is.new) c.requires.named_two
+          (subst (λ (f : Form). g.G.Ledger.opens_as f (g.G.Ledger.name c.args.loaded) (reads disk) is.new) c.requires.form_two (g.met.G.Ledger.holds_reads c.args.loaded is.new disk is.holds_new)),
+      is.unmoved,
+    )
+
+pub returns-in-Ok-clause-files : goal.returns-in-Ok-clause-files
+returns-in-Ok-clause-files g c = λ told.
+    let mid = g.V.Volume.disk c.migrate.new.volume in let new = g.V.Volume.disk c.store_new.new.volume in
+    grew_then new (c.in-Ok.ensures.files told) (subst (λ (n : List ℕ). Grew (g.G.Ledger.owns n) mid new) (c.in-Ok.ensures.made).0 (c.store_new.ensures.files told))
+
+pub returns-in-Ok-clause-added : goal.returns-in-Ok-clause-added
+returns-in-Ok-clause-added g c = λ told held suspense is.
+    let O = g.O.Ledger in let G = g.G.Ledger in let log = c.in-Ok.log in
+    let old = g.V.Volume.disk c.args.volume.now in let mid = g.V.Volume.disk c.migrate.new.volume in let new = g.V.Volume.disk c.store_new.new.volume in
+    let opens_one = O.opens_as One c.args.one.now in let opens_two = G.opens_as Two c.args.two.now in
+    let named = (c.in-Ok.ensures.made).0 in
+    let migrated = c.in-Ok.ensures.migrated told is.old is.holds_old in
+    let sure = subst (λ (n : List ℕ). G.doubt Two n (reads mid) ≡ []) (sym named) migrated.1 in
+    let stored = c.store_new.ensures.added told held [] (record {
+      new = moved is.old ++ [] ∷ [];
+      holds_new = migrated.0;
+      marked = moved_marked is.old;
+      held_is = is.held_is ∙ sym (moved_without is.old);
+      suspense_is = sym sure;
+    }) in
+    let R : List ℕ → Type 0 = λ n. IsAdded opens_one (G.opens_as Two n) (G.doubt Two n) O.holds G.holds held [] c.args.frame.now c.store_new.result.slot c.store_new.result.answer mid new in
+    let there = subst R named stored in
+    let P : List (List ℕ) → (List ℕ → List ℕ) → Type 0 = λ s image. IsWithin (IsList opens_one opens_two image) held s ⊎ IsWithin (IsList opens_one opens_two image) held (c.args.frame.now ∷ []) in
+    let before = subst (λ (n : List ℕ). EachSince old mid (λ image. IsList (O.opens_as One n) opens_two image (moved is.old))) c.requires.named_one (c.in-Ok.ensures.any_moment told is.old is.holds_old) in
+    let grew = subst (λ (n : List ℕ). Grew (G.owns n) mid new) named (c.store_new.ensures.files told) in
+    let S : List (List ℕ) → Type 0 = λ s. IsAdded opens_one opens_two (G.doubt Two c.args.two.now) O.holds G.holds held s c.args.frame.now c.store_new.result.slot c.store_new.result.answer old new in
+    subst S (sym is.suspense_is) (record {
+      each = each_then old mid new (P []) grew (λ image left. inl (inl (subst (IsList opens_one opens_two image) (sym is.held_is) (before image left)))) there.each;
+      left = there.left;
+    })
+
+pub returns-clause-added : goal.returns-clause-added
+returns-clause-added g c = λ told held suspense is.
+    let O = g.O.Ledger in let G = g.G.Ledger in
+    let old = g.V.Volume.disk c.args.volume.now in let mid = g.V.Volume.disk c.migrate.new.volume in
+    let opens_one = O.opens_as One c.args.one.now in let opens_two = G.opens_as Two c.args.two.now in
+    let before = subst (λ (n : List ℕ). EachSince old mid (λ image. IsList (O.opens_as One n) opens_two image (moved is.old))) c.requires.named_one (c.migrate.ensures.any_moment told is.old is.holds_old) in
+    record {
+      each = λ image left. inl (inl (subst (IsList opens_one opens_two image) (sym is.held_is) (before image left)));
+      left = inl (λ image now. inl (subst (IsList opens_one opens_two image) (sym is.held_is) (before image (since_now (moment old) mid image now))));
+    }

@@ -1,0 +1,43 @@
+-- A channel's list, by what its two files open as.
+use Rattle.std.specs.Prelude.{◌≡◌, ◌⊎◌, ℕ, Bool, true, false, List, [], ◌∷◌, ◌++◌, MatchBool, if◌then◌else◌}
+
+-- the marker is a payload without bytes
+abbrev pub is_marker : List ℕ → Bool
+is_marker [] = true
+is_marker (byte ∷ bytes) = false
+
+abbrev pub has_marker : List (List ℕ) → Bool
+has_marker [] = false
+has_marker (payload ∷ payloads) = if is_marker payload then true else has_marker payloads
+
+-- a list without its first marker
+abbrev pub unmarked : List (List ℕ) → List (List ℕ)
+unmarked [] = []
+unmarked (payload ∷ payloads) = if is_marker payload then payloads else payload ∷ unmarked payloads
+
+-- the moment 0 in front of a payload
+abbrev pub at_moment_zero : List ℕ → List ℕ
+at_moment_zero payload = 0 ∷ 0 ∷ 0 ∷ 0 ∷ 0 ∷ 0 ∷ 0 ∷ 0 ∷ payload
+
+-- old entries as they are moved
+abbrev pub moved : List (List ℕ) → List (List ℕ)
+moved [] = []
+moved (payload ∷ payloads) = at_moment_zero payload ∷ moved payloads
+
+-- A channel's list: what the file of form two opens as without its first marker where it has one, and otherwise what the
+-- file of form one opens as, moved.
+abbrev pub IsChan : (one : List (List ℕ) → Type 0) → (two list : List (List ℕ)) → Type 0
+IsChan one two list = MatchBool (has_marker two) (list ≡ unmarked two) ((old : List (List ℕ)) × one old × (list ≡ moved old))
+
+-- the list of a channel in these files
+abbrev pub IsList : (opens_one opens_two : (List ℕ → List ℕ) → List (List ℕ) → Type 0) → (files : List ℕ → List ℕ) → (list : List (List ℕ)) → Type 0
+IsList opens_one opens_two files list = (two : List (List ℕ)) × opens_two files two × IsChan (opens_one files) two list
+
+-- what is doubtful of the list: that of the file of form two where it has a marker
+abbrev pub doubt_if : Bool → List (List ℕ) → List (List ℕ)
+doubt_if true doubt = doubt
+doubt_if false doubt = []
+
+-- its list is this, or this and what is in suspense
+abbrev pub IsWithin : (List (List ℕ) → Type 0) → (held suspense : List (List ℕ)) → Type 0
+IsWithin is held suspense = is held ⊎ is (held ++ suspense)

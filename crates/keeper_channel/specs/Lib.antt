@@ -1,0 +1,3 @@
+pub mod Chan
+pub mod Slot
+pub mod Disks

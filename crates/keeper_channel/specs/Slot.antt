@@ -1,0 +1,106 @@
+-- How a channel stands on a disk.
+use Rattle.std.specs.Prelude.{◌≡◌, ◌⊎◌, ℕ, true, false, List, [], ◌∷◌, ◌++◌, take, Option, None, Some, Result, MatchResult}
+use Rattle.disk_volume.specs.Disk.{Disk, reads}
+use Rattle.disk_volume.specs.Moments.{EachNow, EachSince, Grew}
+use Rattle.keeper_channel.specs.Chan.{has_marker, unmarked, moved, IsChan, IsList, IsWithin, doubt_if}
+use Rattle.gated_log.specs.Ledger.{Within}
+use Rattle.keeper_channel.specs.declared.slot.Slot.{Slot}
+use Rattle.keeper_channel.specs.declared.refused.KeeperRefused.{KeeperRefused}
+use Rattle.keeper_channel.specs.declared.slot.Slot.TheVariants.{Unmoved, Moved}
+
+-- what a load of these files finds: a list, and what is in suspense
+pub record IsFound (opens_one opens_two : (List ℕ → List ℕ) → List (List ℕ) → Type 0) (doubt : (List ℕ → List ℕ) → List (List ℕ))
+    (files : List ℕ → List ℕ) (held suspense : List (List ℕ)) : Type 0 where
+  pub two : List (List ℕ)
+  pub opened : opens_two files two
+  pub is : IsChan (opens_one files) two held
+  pub doubtful : suspense ≡ doubt_if (has_marker two) (doubt files)
+
+-- a loaded channel that was not moved yet
+pub record IsUnmoved {O G : Type 0} (holds_one : O → List (List ℕ) → Disk → Type 0) (holds_two : G → List (List ℕ) → Disk → Type 0)
+    (one : O) (two : G) (held suspense : List (List ℕ)) (disk : Disk) : Type 0 where
+  pub old : List (List ℕ)
+  pub new : List (List ℕ)
+  pub holds_old : holds_one one old disk
+  pub holds_new : holds_two two new disk
+  pub unmoved : has_marker new ≡ false
+  pub held_is : held ≡ moved old
+  pub suspense_is : suspense ≡ []
+
+-- and one that was
+pub record IsMoved {G : Type 0} (holds_two : G → List (List ℕ) → Disk → Type 0) (doubt : (List ℕ → List ℕ) → List (List ℕ))
+    (log : G) (held suspense : List (List ℕ)) (disk : Disk) : Type 0 where
+  pub new : List (List ℕ)
+  pub holds_new : holds_two log new disk
+  pub marked : has_marker new ≡ true
+  pub held_is : held ≡ unmarked new
+  pub suspense_is : suspense ≡ doubt (reads disk)
+
+abbrev pub IsLive : {O G : Type 0} (holds_one : O → List (List ℕ) → Disk → Type 0) (holds_two : G → List (List ℕ) → Disk → Type 0) (doubt : (List ℕ → List ℕ) → List (List ℕ))
+    → Slot O G → (held suspense : List (List ℕ)) → Disk → Type 0
+IsLive holds_one holds_two doubt (Unmoved one two) held suspense disk = IsUnmoved holds_one holds_two one two held suspense disk
+IsLive holds_one holds_two doubt (Moved log) held suspense disk = IsMoved holds_two doubt log held suspense disk
+
+-- each of its logs is such a one
+abbrev pub IsSlotOf : {O G : Type 0} (is_one : O → Type 0) (is_two : G → Type 0) → Slot O G → Type 0
+IsSlotOf is_one is_two (Unmoved one two) = is_one one × is_two two
+IsSlotOf is_one is_two (Moved log) = is_two log
+
+-- a load of these files found what is held on this disk
+abbrev pub IsFoundIn : {O G : Type 0} (opens_one opens_two : (List ℕ → List ℕ) → List (List ℕ) → Type 0) (doubt : (List ℕ → List ℕ) → List (List ℕ))
+    (holds_one : O → List (List ℕ) → Disk → Type 0) (holds_two : G → List (List ℕ) → Disk → Type 0) (files : List ℕ → List ℕ) → Slot O G → Disk → Type 0
+IsFoundIn opens_one opens_two doubt holds_one holds_two files slot disk =
+    (held : List (List ℕ)) × (suspense : List (List ℕ)) × IsFound opens_one opens_two doubt files held suspense × IsLive holds_one holds_two doubt slot held suspense disk
+
+-- a channel whose logs are loaded, or that must be loaded again
+abbrev pub Keeps : {O G : Type 0} (opens_one opens_two : (List ℕ → List ℕ) → List (List ℕ) → Type 0) (doubt : (List ℕ → List ℕ) → List (List ℕ))
+    (holds_one : O → List (List ℕ) → Disk → Type 0) (holds_two : G → List (List ℕ) → Disk → Type 0) → Option (Slot O G) → (held suspense : List (List ℕ)) → Disk → Type 0
+Keeps opens_one opens_two doubt holds_one holds_two None held suspense disk = EachNow disk (λ image. IsWithin (IsList opens_one opens_two image) held suspense)
+Keeps opens_one opens_two doubt holds_one holds_two (Some slot) held suspense disk = IsLive holds_one holds_two doubt slot held suspense disk
+
+-- it opens as these payloads, with what was doubtful or without, or with one more
+abbrev pub IsAdding : (List (List ℕ) → Type 0) → (payloads doubt : List (List ℕ)) → (payload : List ℕ) → Type 0
+IsAdding opens payloads doubt payload = Within opens payloads doubt ⊎ Within opens payloads (payload ∷ [])
+
+-- so many old entries were moved: the new log has them and nothing is doubtful, the old log is as it was, and since `start` each crash
+-- left the channel's list
+pub record IsMoving {O G : Type 0} (opens_one opens_two : (List ℕ → List ℕ) → List (List ℕ) → Type 0) (doubt : (List ℕ → List ℕ) → List (List ℕ))
+    (holds_one : O → List (List ℕ) → Disk → Type 0) (holds_two : G → List (List ℕ) → Disk → Type 0) (owns : List ℕ → Type 0)
+    (one : O) (log : G) (old : List (List ℕ)) (index : ℕ) (start disk : Disk) : Type 0 where
+  pub holds_old : holds_one one old disk
+  pub holds_new : holds_two log (moved (take index old)) disk
+  pub sure : doubt (reads disk) ≡ []
+  pub each : EachSince start disk (λ image. IsList opens_one opens_two image (moved old))
+  pub files : Grew owns start disk
+
+-- What a store into a live channel did: since it began each crash leaves the list, with what was in suspense or with the payload or
+-- without, and it left the list with the payload, or the list with one of the two in suspense.
+pub record IsAdded {O G : Type 0} (opens_one opens_two : (List ℕ → List ℕ) → List (List ℕ) → Type 0) (doubt : (List ℕ → List ℕ) → List (List ℕ))
+    (holds_one : O → List (List ℕ) → Disk → Type 0) (holds_two : G → List (List ℕ) → Disk → Type 0)
+    (held suspense : List (List ℕ)) (payload : List ℕ) (slot : Option (Slot O G)) (answer : Result ℕ KeeperRefused) (old new : Disk) : Type 0 where
+  pub each : EachSince old new (λ image. IsWithin (IsList opens_one opens_two image) held suspense ⊎ IsWithin (IsList opens_one opens_two image) held (payload ∷ []))
+  pub left : MatchResult answer (λ index. Keeps opens_one opens_two doubt holds_one holds_two slot (held ++ payload ∷ []) [] new)
+      (λ refused. Keeps opens_one opens_two doubt holds_one holds_two slot held suspense new ⊎ Keeps opens_one opens_two doubt holds_one holds_two slot held (payload ∷ []) new)
+
+-- a channel was loaded again: it has the list held, or that and what was in suspense, of the two the one that its files open as
+pub record IsReloaded {O G : Type 0} (opens_one opens_two : (List ℕ → List ℕ) → List (List ℕ) → Type 0) (doubt : (List ℕ → List ℕ) → List (List ℕ))
+    (holds_one : O → List (List ℕ) → Disk → Type 0) (holds_two : G → List (List ℕ) → Disk → Type 0)
+    (held suspense : List (List ℕ)) (slot : Slot O G) (old new : Disk) : Type 0 where
+  pub loaded : List (List ℕ)
+  pub doubtful : List (List ℕ)
+  pub found : IsFound opens_one opens_two doubt (reads old) loaded doubtful
+  pub is_loaded : (loaded ≡ held) ⊎ (loaded ≡ held ++ suspense)
+  pub live : IsLive holds_one holds_two doubt slot loaded doubtful new
+
+-- What a store into a channel did, one that was loaded for it too: `loaded` and `doubtful` stood right after that load.
+pub record IsStored {O G : Type 0} (opens_one opens_two : (List ℕ → List ℕ) → List (List ℕ) → Type 0) (doubt : (List ℕ → List ℕ) → List (List ℕ))
+    (holds_one : O → List (List ℕ) → Disk → Type 0) (holds_two : G → List (List ℕ) → Disk → Type 0)
+    (held suspense : List (List ℕ)) (payload : List ℕ) (slot : Option (Slot O G)) (answer : Result ℕ KeeperRefused) (old new : Disk) : Type 0 where
+  pub loaded : List (List ℕ)
+  pub doubtful : List (List ℕ)
+  pub is_loaded : (loaded ≡ held) ⊎ (loaded ≡ held ++ suspense)
+  pub each : EachSince old new (λ image. IsWithin (IsList opens_one opens_two image) held suspense
+      ⊎ (IsWithin (IsList opens_one opens_two image) loaded doubtful ⊎ IsWithin (IsList opens_one opens_two image) loaded (payload ∷ [])))
+  pub left : MatchResult answer (λ index. Keeps opens_one opens_two doubt holds_one holds_two slot (loaded ++ payload ∷ []) [] new)
+      (λ refused. Keeps opens_one opens_two doubt holds_one holds_two slot held suspense new
+      ⊎ (Keeps opens_one opens_two doubt holds_one holds_two slot loaded doubtful new ⊎ Keeps opens_one opens_two doubt holds_one holds_two slot loaded (payload ∷ []) new))

@@ -1,0 +1,137 @@
+ghost use Rattle.std.specs.Prelude.{◌≡◌, ◌+◌, ◌<◌, ◌≤◌, ◌++◌, [], ◌∷◌, false, List, ℕ, length, Some, slice_get, IfOk, OnOk, IsTrue, MatchResult, ◌↔◌, IsErrOf, ◌⊎◌};
+ghost use Rattle.pad_edge.specs.Count.{Rose};
+ghost use Rattle.disk_volume.specs.Disk.{reads};
+ghost use Rattle.disk_volume.specs.Moments.{EachSince, Grew};
+ghost use Rattle.keeper_channel.specs.Chan.{has_marker, moved, at_moment_zero, IsList};
+ghost use Rattle.keeper_channel.specs.Slot.{IsMoving};
+
+use crate::moving::{add_reserved, move_entry};
+use crate::refused::KeeperRefused;
+use disk_volume::Volume;
+use gated_log::{Ledger, LoadRefused};
+use log_format::{Form, Frame};
+use std::alloc::{AllocError, Global};
+
+/// Makes form two an empty log, where it has no marker.
+fn restart_channel<O: Ledger, G: Ledger, V: Volume>(
+    alloc: Global,
+    volume: &mut V,
+    one: &O,
+    two: &str,
+) -> Result<G, KeeperRefused>
+    requires form_one { O.form_of one.now ≡ Form.One }
+    requires apart { (file : List ℕ) → G.owns two.now file → O.owns (O.name one.now) file → ⊥ }
+    requires rests { V.tells → G.rests Form.Two two.now (V.disk volume.old) }
+    ensures made { IfOk result (λ log. (G.name log ≡ two.now) × (G.form_of log ≡ Form.Two) × IsTrue (G.live log)) }
+    ensures any_moment { V.tells → (old new : List (List ℕ)) → O.holds one.now old (V.disk volume.old) → G.opens_as Form.Two two.now (reads (V.disk volume.old)) new → has_marker new ≡ false
+        → EachSince (V.disk volume.old) (V.disk volume.new) (λ image. IsList (O.opens_as Form.One (O.name one.now)) (G.opens_as Form.Two two.now) image (moved old)) }
+    ensures moving { V.tells → (old new : List (List ℕ)) → O.holds one.now old (V.disk volume.old) → G.opens_as Form.Two two.now (reads (V.disk volume.old)) new → has_marker new ≡ false
+        → IfOk result (λ log. IsMoving (O.opens_as Form.One (O.name one.now)) (G.opens_as Form.Two two.now) (G.doubt Form.Two two.now) O.holds G.holds (G.owns two.now) one.now log old 0 (V.disk volume.old) (V.disk volume.new)) }
+    ensures files { V.tells → Grew (G.owns two.now) (V.disk volume.old) (V.disk volume.new) }
+    ensures follows { V.follows volume.old volume.new }
+    ensures store { IsErrOf result KeeperRefused.Store → Rose (V.faults volume.old) (V.faults volume.new) }
+    ensures kept { IsErrOf result KeeperRefused.Store ⊎ (V.faults volume.new ≡ V.faults volume.old) }
+    ensures later { V.faults volume.old ≤ V.faults volume.new }
+{
+    match G::restart(alloc, volume, two) {
+        Ok(log) => Ok(log),
+        Err(LoadRefused::Store) => Err(KeeperRefused::Store),
+        Err(_) => Err(KeeperRefused::NoMemory(AllocError)),
+    }
+}
+
+/// Moves the entries.
+fn move_entries<O: Ledger, G: Ledger, V: Volume>(
+    alloc: Global,
+    volume: &mut V,
+    one: &O,
+    log: &mut G,
+) -> Result<(), KeeperRefused>
+    requires form_one { O.form_of one.now ≡ Form.One }
+    requires form_two { G.form_of log.old ≡ Form.Two }
+    requires live_one { IsTrue (O.live one.now) }
+    requires live { IsTrue (G.live log.old) }
+    requires apart { (file : List ℕ) → G.owns (G.name log.old) file → O.owns (O.name one.now) file → ⊥ }
+    requires holds { V.tells → (old : List (List ℕ)) × O.holds one.now old (V.disk volume.old) × G.holds log.old [] (V.disk volume.old) × (G.doubt Form.Two (G.name log.old) (reads (V.disk volume.old)) ≡ []) }
+    ensures live { OnOk result (IsTrue (G.live log.new)) }
+    ensures name { G.name log.new ≡ G.name log.old }
+    ensures form { G.form_of log.new ≡ Form.Two }
+    ensures any_moment { V.tells → (old : List (List ℕ)) → O.holds one.now old (V.disk volume.old)
+        → EachSince (V.disk volume.old) (V.disk volume.new) (λ image. IsList (O.opens_as Form.One (O.name one.now)) (G.opens_as Form.Two (G.name log.old)) image (moved old)) }
+    ensures moved { V.tells → (old : List (List ℕ)) → O.holds one.now old (V.disk volume.old)
+        → OnOk result (G.holds log.new (moved old) (V.disk volume.new) × O.holds one.now old (V.disk volume.new) × (G.doubt Form.Two (G.name log.old) (reads (V.disk volume.new)) ≡ [])) }
+    ensures files { V.tells → Grew (G.owns (G.name log.old)) (V.disk volume.old) (V.disk volume.new) }
+    ensures follows { V.follows volume.old volume.new }
+    ensures store { IsErrOf result KeeperRefused.Store → Rose (V.faults volume.old) (V.faults volume.new) }
+    ensures kept { IsErrOf result KeeperRefused.Store ⊎ (V.faults volume.new ≡ V.faults volume.old) }
+    ensures later { V.faults volume.old ≤ V.faults volume.new }
+{
+    for index in 0..one.count() {
+        move_entry(alloc, volume, one, log, index)?;
+    }
+    Ok(())
+}
+
+/// Appends the marker.
+fn mark<O: Ledger, G: Ledger, V: Volume>(
+    alloc: Global,
+    volume: &mut V,
+    one: &O,
+    log: &mut G,
+) -> Result<(), KeeperRefused>
+    requires form_one { O.form_of one.now ≡ Form.One }
+    requires form_two { G.form_of log.old ≡ Form.Two }
+    requires live { IsTrue (G.live log.old) }
+    requires apart { (file : List ℕ) → G.owns (G.name log.old) file → O.owns (O.name one.now) file → ⊥ }
+    requires holds { V.tells → (payloads : List (List ℕ)) × G.holds log.old payloads (V.disk volume.old) }
+    ensures any_moment { V.tells → (old : List (List ℕ)) → O.holds one.now old (V.disk volume.old) → G.holds log.old (moved old) (V.disk volume.old) → G.doubt Form.Two (G.name log.old) (reads (V.disk volume.old)) ≡ []
+        → EachSince (V.disk volume.old) (V.disk volume.new) (λ image. IsList (O.opens_as Form.One (O.name one.now)) (G.opens_as Form.Two (G.name log.old)) image (moved old)) }
+    ensures marked { V.tells → (old : List (List ℕ)) → G.holds log.old (moved old) (V.disk volume.old)
+        → OnOk result (G.holds log.new (moved old ++ [] ∷ []) (V.disk volume.new)) }
+    ensures sure { V.tells → (old : List (List ℕ)) → G.holds log.old (moved old) (V.disk volume.old)
+        → OnOk result (G.doubt (G.form_of log.new) (G.name log.new) (reads (V.disk volume.new)) ≡ []) }
+    ensures live { OnOk result (IsTrue (G.live log.new)) }
+    ensures name { G.name log.new ≡ G.name log.old }
+    ensures form { G.form_of log.new ≡ Form.Two }
+    ensures files { V.tells → Grew (G.owns (G.name log.old)) (V.disk volume.old) (V.disk volume.new) }
+    ensures follows { V.follows volume.old volume.new }
+    ensures store { IsErrOf result KeeperRefused.Store → Rose (V.faults volume.old) (V.faults volume.new) }
+    ensures kept { IsErrOf result KeeperRefused.Store ⊎ (V.faults volume.new ≡ V.faults volume.old) }
+    ensures later { V.faults volume.old ≤ V.faults volume.new }
+{
+    let frame = match Frame::build(alloc, &[]) {
+        Ok(frame) => frame,
+        Err(_) => return Err(KeeperRefused::NoMemory(AllocError)),
+    };
+    add_reserved(alloc, volume, log, &frame)
+}
+
+/// Moves a channel that has no marker.
+pub fn migrate<O: Ledger, G: Ledger, V: Volume>(
+    alloc: Global,
+    volume: &mut V,
+    one: &O,
+    two: &str,
+) -> Result<G, KeeperRefused>
+    requires form_one { O.form_of one.now ≡ Form.One }
+    requires live_one { IsTrue (O.live one.now) }
+    requires apart { (file : List ℕ) → G.owns two.now file → O.owns (O.name one.now) file → ⊥ }
+    requires holds { V.tells → (old : List (List ℕ)) × O.holds one.now old (V.disk volume.old) }
+    requires rests { V.tells → G.rests Form.Two two.now (V.disk volume.old) }
+    requires unmarked { V.tells → (new : List (List ℕ)) × G.opens_as Form.Two two.now (reads (V.disk volume.old)) new × (has_marker new ≡ false) }
+    ensures made { IfOk result (λ log. (G.name log ≡ two.now) × (G.form_of log ≡ Form.Two) × IsTrue (G.live log)) }
+    ensures any_moment { V.tells → (old : List (List ℕ)) → O.holds one.now old (V.disk volume.old)
+        → EachSince (V.disk volume.old) (V.disk volume.new) (λ image. IsList (O.opens_as Form.One (O.name one.now)) (G.opens_as Form.Two two.now) image (moved old)) }
+    ensures migrated { V.tells → (old : List (List ℕ)) → O.holds one.now old (V.disk volume.old)
+        → IfOk result (λ log. G.holds log (moved old ++ [] ∷ []) (V.disk volume.new) × (G.doubt Form.Two two.now (reads (V.disk volume.new)) ≡ [])) }
+    ensures files { V.tells → Grew (G.owns two.now) (V.disk volume.old) (V.disk volume.new) }
+    ensures follows { V.follows volume.old volume.new }
+    ensures store { IsErrOf result KeeperRefused.Store → Rose (V.faults volume.old) (V.faults volume.new) }
+    ensures kept { IsErrOf result KeeperRefused.Store ⊎ (V.faults volume.new ≡ V.faults volume.old) }
+    ensures later { V.faults volume.old ≤ V.faults volume.new }
+{
+    let mut log: G = restart_channel(alloc, volume, one, two)?;
+    move_entries(alloc, volume, one, &mut log)?;
+    mark(alloc, volume, one, &mut log)?;
+    Ok(log)
+}
