@@ -9,7 +9,8 @@ use Rattle.pad_message.specs.declared.message.Message.{Message}
 use Rattle.pad_message.specs.Message.{name_of}
 use Rattle.pad_model.specs.declared.base.Base.{Base}
 use Rattle.pad_model.specs.Path.{last_name, IsLinkedPath, NamesDiffer}
-use Rattle.pad_model.proofs.CallerLemmas.{contains_cases, contains_none, linked_unique, linked_below}
+use Rattle.pad_list.proofs.CallerLemmas.{contains_cases, contains_none}
+use Rattle.pad_model.proofs.CallerLemmas.{linked_unique, linked_below}
 use Rattle.pad_branch.specs.declared.held.Held.{Held}
 use Rattle.pad_branch.specs.declared.undo.Undo.{Undo}
 use Rattle.pad_branch.specs.Undo.{undone_name}

@@ -19,7 +19,8 @@ use Rattle.pad_model.specs.Path.{last_name, IsLinkedPath, EachSound, IsPath, Nam
 use Rattle.pad_model.specs.Best.{IsBetter}
 use Rattle.pad_model.specs.Choice.{IsBestThrough, RunsThrough}
 use Rattle.pad_branch.specs.Inside.Candidates.{candidate_cmp, IsCandidate, IsOffered, NoPathIn}
-use Rattle.pad_model.proofs.CallerLemmas.{contains_cases, linked_unique, path_more, better_than, better_asym, never_better_itself, contains_more}
+use Rattle.pad_list.proofs.CallerLemmas.{contains_cases, contains_more}
+use Rattle.pad_model.proofs.CallerLemmas.{linked_unique, path_more, better_than, better_asym, never_better_itself}
 
 candidate_total : IsTotalOrder candidate_cmp
 candidate_total = then_total (on_total (λ c. c.height.0) (back_total nat_cmp_total)) (on_total (λ c. c.name.0) nat_list_cmp_total)

@@ -13,7 +13,8 @@ use Rattle.pad_model.specs.Choice.{RunsThrough, to_checkpoint, cut, higher}
 use Rattle.pad_branch.specs.Pathless.{KnowsPathless, AreFound, IsFirstUnsound}
 use Rattle.pad_branch.specs.Laws.{NoCheckpoint, RootStays, StaysKnown, KnownAbove, FoundStays, FoundAbove, MarksPass}
 use Rattle.pad_branch.proofs.Choosing.{Passes, linked_new}
-use Rattle.pad_model.proofs.CallerLemmas.{linked_unique, linked_below, linked_more, sound_below, contains_more}
+use Rattle.pad_list.proofs.CallerLemmas.{contains_more}
+use Rattle.pad_model.proofs.CallerLemmas.{linked_unique, linked_below, linked_more, sound_below}
 
 pub stays_known : StaysKnown
 stays_known b R root m pathless k alive fresh = record { at_root = k.at_root; really = λ x p h e. really x p h e (linked_new b R m (x ∷ p) h); passed = λ x p h t e. passed x p h t e (linked_new b R m (x ∷ p) h) }

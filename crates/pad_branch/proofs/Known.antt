@@ -8,7 +8,8 @@ use Rattle.pad_model.specs.Path.{last_name, IsLinkedPath, EachSound, IsSoundOn, 
 use Rattle.pad_model.specs.Choice.{RunsThrough}
 use Rattle.pad_branch.specs.Pathless.{HangsOn, KnowsPathless, IsFirstUnsound, AreFound}
 use Rattle.pad_branch.specs.Inside.Passing.{PassesOn}
-use Rattle.pad_model.proofs.CallerLemmas.{contains_cases, contains_more, linked_unique, linked_below, linked_more, sound_below}
+use Rattle.pad_list.proofs.CallerLemmas.{contains_cases, contains_more}
+use Rattle.pad_model.proofs.CallerLemmas.{linked_unique, linked_below, linked_more, sound_below}
 
 -- on the path to a message that is alive each message above the root is alive
 pub alive_below : (b : Base) (R root : List Message) (pathless : Name → Bool) → KnowsPathless b R root pathless → (above : List Message) (m : Message) (below : List Message)

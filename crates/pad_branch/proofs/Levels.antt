@@ -15,7 +15,8 @@ use Rattle.pad_model.specs.Choice.{RunsThrough}
 use Rattle.pad_branch.specs.Pathless.{HangsOn, KnowsPathless, pathless_in}
 use Rattle.pad_branch.specs.Inside.Passing.{PassesOn, IsLinkedThrough, MarksNames, MarksChildren, IsChildOf}
 use Rattle.pad_branch.specs.Choice.{AreLinkedOn}
-use Rattle.pad_model.proofs.CallerLemmas.{contains_none, contains_head, contains_cases, linked_unique, linked_below}
+use Rattle.pad_list.proofs.CallerLemmas.{contains_none, contains_head, contains_cases}
+use Rattle.pad_model.proofs.CallerLemmas.{linked_unique, linked_below}
 use Rattle.pad_branch.proofs.Marking.{here, still, only_one}
 
 pub nothing : (table : Name → Option Held) (d : BTreeSet Name) (l : List Name) → MarksNames table [] d l d l

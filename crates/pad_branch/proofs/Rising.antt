@@ -4,7 +4,8 @@ use Rattle.std.proofs.lemmas.List.{length-reverse}
 use Rattle.pad_message.specs.declared.message.Message.{Message}
 use Rattle.pad_model.specs.declared.base.Base.{Base}
 use Rattle.pad_model.specs.Path.{text, IsLinkedPath, EachSound}
-use Rattle.pad_model.proofs.CallerLemmas.{contains_more, linked_more}
+use Rattle.pad_list.proofs.CallerLemmas.{contains_more}
+use Rattle.pad_model.proofs.CallerLemmas.{linked_more}
 use Rattle.pad_branch.specs.declared.tip.Tip.{Tip}
 use Rattle.pad_branch.specs.declared.undo.Undo.{Undo}
 use Rattle.pad_branch.specs.Tip.{IsTip, IsTipOf, tip_after}

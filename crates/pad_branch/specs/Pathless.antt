@@ -7,7 +7,7 @@ use Rattle.pad_message.specs.Message.{name_of}
 use Rattle.pad_model.specs.declared.base.Base.{Base}
 use Rattle.pad_model.specs.Path.{last_name, IsLinkedPath, EachSound, IsSoundOn}
 use Rattle.pad_model.specs.Choice.{RunsThrough}
-use Rattle.pad_graph.specs.Count.{NoRepeat}
+use Rattle.pad_list.specs.Number.{NoRepeat}
 use Rattle.pad_graph.specs.State.{name_cmp}
 use Rattle.pad_branch.specs.declared.held.Held.{Held}
 use Rattle.pad_branch.specs.Held.{marks}

@@ -8,7 +8,8 @@ use Rattle.pad_graph.specs.Chain.{Link, top, IsChain, GoesThrough}
 use Rattle.pad_model.specs.declared.base.Base.{Base}
 use Rattle.pad_model.specs.Path.{last_name, IsLinkedPath, NamesDiffer}
 use Rattle.pad_model.specs.Choice.{RunsThrough}
-use Rattle.pad_model.proofs.CallerLemmas.{contains_head, contains_more, contains_cases, linked_unique, linked_below}
+use Rattle.pad_list.proofs.CallerLemmas.{contains_head, contains_more, contains_cases}
+use Rattle.pad_model.proofs.CallerLemmas.{linked_unique, linked_below}
 use Rattle.pad_checkpoint.specs.Links.{link_of, names_of, AreLinks}
 use Rattle.pad_checkpoint.specs.Laws.{LinkedPathsAreChains}
 

@@ -9,14 +9,14 @@ use Rattle.pad_message.specs.declared.message.Message.{Message}
 use Rattle.pad_message.specs.Message.{name_of}
 use Rattle.pad_graph.specs.declared.linking.Linking.{Linking}
 use Rattle.pad_graph.specs.Chain.{Link, top, IsChain, GoesThrough, IsLinkedName, BecomesLinked}
-use Rattle.pad_graph.specs.Count.{NoRepeat as Apart}
+use Rattle.pad_list.specs.Number.{NoRepeat as Apart}
 use Rattle.pad_graph.specs.State.{name_cmp}
 use Rattle.pad_model.specs.declared.base.Base.{Base}
 use Rattle.pad_model.specs.Path.{last_name, IsLinkedPath, NamesDiffer}
 use Rattle.pad_model.specs.Best.{IsBetter}
-use Rattle.pad_model.specs.Number.{NoRepeat, IsNumberOf}
+use Rattle.pad_list.specs.Number.{NoRepeat, IsNumberOf}
 use Rattle.pad_model.specs.Choice.{Choice, Overtakes}
-use Rattle.pad_model.proofs.CallerLemmas.{contains_head, contains_more, contains_cases, contains_none, number_by_key, contains_map, mapped_from}
+use Rattle.pad_list.proofs.CallerLemmas.{contains_head, contains_more, contains_cases, contains_none, number_by_key, contains_map, mapped_from}
 use Rattle.pad_checkpoint.specs.declared.place.Place.{Place}
 use Rattle.pad_checkpoint.specs.Place.{place_of}
 use Rattle.pad_checkpoint.specs.Links.{link_of, names_of, AreLinks}

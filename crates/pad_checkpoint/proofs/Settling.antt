@@ -5,14 +5,15 @@ use Rattle.pad_message.specs.Kind.{is_checkpoint}
 use Rattle.pad_text.specs.declared.name.Name.{Name}
 use Rattle.pad_message.specs.declared.message.Message.{Message}
 use Rattle.pad_graph.specs.Chain.{Link, top, IsChain, GoesThrough, IsKeptName, IsGoneName}
-use Rattle.pad_graph.specs.Count.{IsNumberOf}
+use Rattle.pad_list.specs.Number.{IsNumberOf}
 use Rattle.pad_graph.specs.State.{State}
 use Rattle.pad_graph.specs.Graph.{Stands, AreDropped, IsDropped}
 use Rattle.pad_graph.specs.Laws.{ChainsAreOne}
 use Rattle.pad_model.specs.declared.base.Base.{Base}
 use Rattle.pad_model.specs.Path.{IsLinkedPath}
 use Rattle.pad_model.specs.Choice.{to_checkpoint, cut, higher}
-use Rattle.pad_model.proofs.CallerLemmas.{contains_none, linked_below}
+use Rattle.pad_list.proofs.CallerLemmas.{contains_none}
+use Rattle.pad_model.proofs.CallerLemmas.{linked_below}
 use Rattle.pad_checkpoint.specs.declared.place.Place.{Place}
 use Rattle.pad_checkpoint.specs.declared.path_mark.PathMark.{PathMark}
 use Rattle.pad_checkpoint.specs.Place.{place_of}

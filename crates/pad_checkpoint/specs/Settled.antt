@@ -2,7 +2,7 @@
 use Rattle.std.specs.Prelude.{◌≡◌, ◌≢◌, ℕ, List, ◌++◌}
 use Rattle.pad_message.specs.declared.message.Message.{Message}
 use Rattle.pad_graph.specs.Chain.{Link}
-use Rattle.pad_graph.specs.Count.{IsNumberOf}
+use Rattle.pad_list.specs.Number.{IsNumberOf}
 use Rattle.pad_graph.specs.State.{State}
 use Rattle.pad_graph.specs.Graph.{Stands, AreDropped, IsDropped}
 use Rattle.pad_model.specs.declared.base.Base.{Base}

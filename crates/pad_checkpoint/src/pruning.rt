@@ -6,7 +6,7 @@ ghost use Rattle.pad_graph.specs.Chain.{Link};
 ghost use Rattle.pad_graph.specs.State.{state_of, standing, IsHeld};
 ghost use Rattle.pad_model.specs.declared.base.Base.{Base};
 ghost use Rattle.pad_model.specs.Path.{NamesDiffer};
-ghost use Rattle.pad_model.specs.Number.{IsNumberOf};
+ghost use Rattle.pad_list.specs.Number.{IsNumberOf};
 ghost use Rattle.pad_model.specs.Choice.{cut, higher, Choice, Overtakes};
 ghost use Rattle.pad_checkpoint.specs.Place.{place_of};
 ghost use Rattle.pad_checkpoint.specs.Links.{AreLinks};
