@@ -50,7 +50,7 @@ at_drop zero (y ∷ xs) x rest e = let same : y ≡ x = cc in ap Some same
 at_drop (suc k) [] x rest e = cc
 at_drop (suc k) (y ∷ xs) x rest e = at_drop k xs x rest e
 
-map_joined : {A B : Type 0} (f : A → B) (xs ys : List A) → map f (xs ++ ys) ≡ map f xs ++ map f ys
+pub map_joined : {A B : Type 0} (f : A → B) (xs ys : List A) → map f (xs ++ ys) ≡ map f xs ++ map f ys
 map_joined f [] ys = refl
 map_joined f (x ∷ xs) ys = ap (λ q. f x ∷ q) (map_joined f xs ys)
 

@@ -5,9 +5,11 @@ mod Forks
 mod Growing
 mod Growth
 mod Known
+mod Moves
 mod Levels
 mod Marking
 mod Places
+mod Ready
 mod Rewinding
 mod Rising
 mod Trunk
