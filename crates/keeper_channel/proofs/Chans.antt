@@ -6,7 +6,8 @@ use Rattle.std.proofs.lemmas.Option.{slice_get_within, get_or_from_slice_get}
 use Rattle.keeper_channel.specs.Chan.{has_marker, unmarked, at_moment_zero, moved, IsChan, IsList, IsWithin, doubt_if}
 use Rattle.gated_log.specs.Ledger.{LeavesOut}
 use Rattle.std.proofs.lemmas.Bool.{eqb-true}
-use Rattle.keeper_channel.specs.Slot.{IsAdding, IsFound}
+use Rattle.keeper_channel.specs.Slot.{IsFound}
+use Rattle.keeper_channel.specs.Inside.Adding.{IsAdding}
 use Rattle.gated_log.specs.Ledger.{Within}
 
 -- without a marker it is what form one opens as, moved

@@ -6,7 +6,7 @@ use Rattle.disk_volume.specs.Lemmas.Others.{others_leave}
 use Rattle.disk_volume.specs.Lemmas.Since.{elsewhere, each_then, since_now, now_alone}
 use Rattle.keeper_channel.specs.Chan.{has_marker, unmarked, moved, IsList, IsWithin, at_moment_zero}
 use Rattle.gated_log.specs.Ledger.{LeavesOut}
-use Rattle.keeper_channel.specs.Slot.{IsAdding, IsMoving}
+use Rattle.keeper_channel.specs.Inside.Adding.{IsAdding, IsMoving}
 use Rattle.gated_log.specs.Ledger.{Within}
 use Rattle.keeper_channel.proofs.Chans.{unmoved_list, left_unmarked, adding_unmoved, adding_moved, within_moved, within_by, moved_unmarked}
 

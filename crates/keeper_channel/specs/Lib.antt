@@ -1,3 +1,4 @@
 pub mod Chan
-pub mod Slot
 pub mod Disks
+pub mod Inside
+pub mod Slot

@@ -3,7 +3,7 @@ ghost use Rattle.pad_edge.specs.Count.{Rose};
 ghost use Rattle.disk_volume.specs.Disk.{reads};
 ghost use Rattle.disk_volume.specs.Moments.{EachNow, EachSince, Grew};
 ghost use Rattle.gated_log.specs.Ledger.{Within};
-ghost use Rattle.keeper_channel.specs.Slot.{IsAdding};
+ghost use Rattle.keeper_channel.specs.Inside.Adding.{IsAdding};
 
 use disk_volume::Volume;
 use gated_log::{AppendRefused, Ledger};

@@ -12,6 +12,7 @@
 #![tactic(auto)]
 
 mod adding;
+mod laws;
 mod loading;
 mod marker;
 mod migrating;
@@ -21,6 +22,7 @@ mod reloading;
 mod slot;
 mod storing;
 
+pub use laws::{moved_entries_are_the_list, what_follows_a_marker_is_appended};
 pub use loading::load_channel;
 pub use refused::KeeperRefused;
 pub use reloading::reload;

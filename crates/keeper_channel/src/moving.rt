@@ -3,7 +3,7 @@ ghost use Rattle.pad_edge.specs.Count.{Rose};
 ghost use Rattle.disk_volume.specs.Disk.{reads};
 ghost use Rattle.disk_volume.specs.Moments.{EachSince, Grew};
 ghost use Rattle.keeper_channel.specs.Chan.{has_marker, moved, at_moment_zero, IsList};
-ghost use Rattle.keeper_channel.specs.Slot.{IsAdding};
+ghost use Rattle.keeper_channel.specs.Inside.Adding.{IsAdding};
 
 use crate::adding::add;
 use crate::refused::KeeperRefused;

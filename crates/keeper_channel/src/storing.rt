@@ -3,7 +3,8 @@ ghost use Rattle.pad_edge.specs.Count.{Rose};
 ghost use Rattle.disk_volume.specs.Moments.{EachNow, Grew};
 ghost use Rattle.keeper_channel.specs.Chan.{IsList, IsWithin};
 ghost use Rattle.keeper_channel.specs.Disks.{Either};
-ghost use Rattle.keeper_channel.specs.Slot.{IsMoved, IsUnmoved, IsLive, IsSlotOf, IsAdded, IsStored, Keeps};
+ghost use Rattle.keeper_channel.specs.Slot.{IsMoved, IsUnmoved, IsLive, IsSlotOf, IsStored, Keeps};
+ghost use Rattle.keeper_channel.specs.Inside.Adding.{IsAdded};
 
 use crate::adding::add;
 use crate::migrating::migrate;

@@ -23,3 +23,6 @@ pub use laws::payloads_hold_their_entries;
 pub use payload::{
     BEFORE_CONTENT, MOMENT_BYTES, SENDER_DIGITS, build_payload, content_of, moment_of, sender_of,
 };
+
+#[cfg(test)]
+mod tests;

@@ -3,7 +3,7 @@ use Rattle.disk_volume.specs.Disk.{reads}
 use Rattle.disk_volume.specs.Moments.{moment, Grew}
 use Rattle.disk_volume.specs.Lemmas.Since.{each_then, grew_then, since_now}
 use Rattle.log_format.specs.declared.form.Form.{Form}
-use Rattle.keeper_channel.specs.Slot.{IsAdding}
+use Rattle.keeper_channel.specs.Inside.Adding.{IsAdding}
 use Rattle.gated_log.specs.Ledger.{Within}
 use Rattle.keeper_channel.proofs.adding.add.Goals as goal
 

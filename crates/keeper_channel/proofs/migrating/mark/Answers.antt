@@ -5,7 +5,7 @@ use Rattle.disk_volume.specs.Lemmas.Since.{now_alone}
 use Rattle.keeper_channel.specs.Chan.{moved}
 use Rattle.log_format.specs.declared.form.Form.{Form}
 use Rattle.log_format.specs.declared.form.Form.TheVariants.{One, Two}
-use Rattle.keeper_channel.specs.Slot.{IsAdding}
+use Rattle.keeper_channel.specs.Inside.Adding.{IsAdding}
 use Rattle.keeper_channel.proofs.Chans.{adding_marker, unmoved_list, moved_unmarked}
 use Rattle.keeper_channel.proofs.Stays.{opens_since}
 use Rattle.keeper_channel.proofs.migrating.mark.Goals as goal

@@ -5,7 +5,7 @@ use Rattle.disk_volume.specs.Lemmas.Since.{elsewhere, each_start, grew_then}
 use Rattle.keeper_channel.specs.Chan.{moved, at_moment_zero, IsList}
 use Rattle.log_format.specs.declared.form.Form.{Form}
 use Rattle.log_format.specs.declared.form.Form.TheVariants.{One, Two}
-use Rattle.keeper_channel.specs.Slot.{IsAdding}
+use Rattle.keeper_channel.specs.Inside.Adding.{IsAdding}
 use Rattle.keeper_channel.proofs.Chans.{unmoved_list, moved_more}
 use Rattle.keeper_channel.proofs.Stays.{moved_each}
 use Rattle.keeper_channel.proofs.migrating.move_entries.Goals as goal

@@ -1,6 +1,6 @@
 use Rattle.std.proofs.Common.{◌≡◌, ℕ, List, IsTrue}
 use Rattle.log_format.specs.declared.form.Form.TheVariants.{One, Two}
-use Rattle.keeper_channel.specs.Slot.{IsMoving}
+use Rattle.keeper_channel.specs.Inside.Adding.{IsMoving}
 use Rattle.keeper_channel.proofs.migrating.move_entries.Given as goal
 
 abbrev pub invariant-loop-index : goal.invariant-loop-index

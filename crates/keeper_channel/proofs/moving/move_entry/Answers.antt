@@ -2,7 +2,7 @@ use Rattle.std.proofs.Common.{◌≡◌, List, ℕ, [], ◌∷◌, ◌++◌, Res
 use Rattle.disk_volume.specs.Disk.{Disk, reads}
 use Rattle.disk_volume.specs.Moments.{Grew, EachSince, still}
 use Rattle.keeper_channel.specs.Chan.{at_moment_zero}
-use Rattle.keeper_channel.specs.Slot.{IsAdding}
+use Rattle.keeper_channel.specs.Inside.Adding.{IsAdding}
 use Rattle.keeper_channel.proofs.Stays.{adding_still}
 use Rattle.keeper_channel.proofs.moving.move_entry.Goals as goal
 

@@ -1,6 +1,7 @@
 use Rattle.std.proofs.Common.{List, ℕ, sym, subst}
 use Rattle.log_format.specs.declared.form.Form.TheVariants.{One, Two}
-use Rattle.keeper_channel.specs.Slot.{IsAdded, IsMoved}
+use Rattle.keeper_channel.specs.Slot.{IsMoved}
+use Rattle.keeper_channel.specs.Inside.Adding.{IsAdded}
 use Rattle.keeper_channel.proofs.storing.store_live.Goals as goal
 
 pub returns-in-Moved-clause-added : goal.returns-in-Moved-clause-added

@@ -2,7 +2,7 @@ use Rattle.std.proofs.Common.{◌≡◌, ◌∙◌, ◌⊎◌, inl, List, ℕ, [
 use Rattle.disk_volume.specs.Disk.{reads}
 use Rattle.disk_volume.specs.Moments.{EachSince, EachNow, still}
 use Rattle.disk_volume.specs.Lemmas.Since.{now_alone}
-use Rattle.keeper_channel.specs.Slot.{IsAdding}
+use Rattle.keeper_channel.specs.Inside.Adding.{IsAdding}
 use Rattle.gated_log.specs.Ledger.{Within}
 use Rattle.log_format.specs.declared.form.Form.{Form}
 use Rattle.log_format.specs.declared.form.Form.TheVariants.{One, Two}

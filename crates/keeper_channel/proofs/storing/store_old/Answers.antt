@@ -5,7 +5,7 @@ use Rattle.disk_volume.specs.Lemmas.Since.{each_then, grew_then, since_now}
 use Rattle.keeper_channel.specs.Chan.{moved, IsList, IsWithin}
 use Rattle.log_format.specs.declared.form.Form.{Form}
 use Rattle.log_format.specs.declared.form.Form.TheVariants.{One, Two}
-use Rattle.keeper_channel.specs.Slot.{IsAdded}
+use Rattle.keeper_channel.specs.Inside.Adding.{IsAdded}
 use Rattle.keeper_channel.proofs.Chans.{moved_marked, moved_without}
 use Rattle.keeper_channel.proofs.storing.store_old.Goals as goal
 

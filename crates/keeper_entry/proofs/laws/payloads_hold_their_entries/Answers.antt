@@ -23,10 +23,14 @@ length-payload moment sender content long = omega (arith, length-append (to_be_b
 
 pub returns : goal.returns
 returns c = λ moment sender content fits digits utf8 short.
-    let size = length-payload moment sender content digits.as_many in
-    (record {
-      long = omega (arith, size);
-      short = omega (arith, size);
-      sender = subst (IsDigits 32) (sym (sender_next moment sender content digits.as_many)) digits;
-      utf8 = subst IsUtf8 (sym (content_last moment sender content digits.as_many)) utf8;
-    }, moment_first moment (sender ++ content) fits, sender_next moment sender content digits.as_many, content_last moment sender content digits.as_many)
+    let size = length-payload moment sender content digits.as_many in (
+      record {
+        long = omega (arith, size);
+        short = omega (arith, size);
+        sender = subst (IsDigits 32) (sym (sender_next moment sender content digits.as_many)) digits;
+        utf8 = subst IsUtf8 (sym (content_last moment sender content digits.as_many)) utf8;
+      },
+      moment_first moment (sender ++ content) fits,
+      sender_next moment sender content digits.as_many,
+      content_last moment sender content digits.as_many,
+    )
