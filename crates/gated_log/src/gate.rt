@@ -1,4 +1,5 @@
 ghost use Rattle.std.specs.Prelude.{◌<◌, ◌≤◌};
+ghost use Rattle.log_format.specs.declared.layout.TheConstants.{MAGIC_SIZE};
 ghost use Rattle.log_format.specs.declared.form.TheConstants.{MOST_BYTES_TWO};
 
 /// A gate of a log file.
@@ -6,6 +7,6 @@ ghost use Rattle.log_format.specs.declared.form.TheConstants.{MOST_BYTES_TWO};
 pub struct Gate {
     pub place: u64,
     pub byte: u8,
-    ghost behind_magic: { 8 ≤ place },
+    ghost behind_magic: { MAGIC_SIZE ≤ place },
     ghost within: { place < MOST_BYTES_TWO },
 }

@@ -6,6 +6,7 @@ ghost use Rattle.disk_volume.specs.Lemmas.Others.{others_leave as others_leave_s
 ghost use Rattle.disk_volume.specs.Lemmas.Since.{elsewhere};
 ghost use Rattle.log_format.specs.declared.damage.Damage.{Damage};
 ghost use Rattle.log_format.specs.declared.form.Form.{Form};
+ghost use Rattle.log_format.specs.declared.layout.TheConstants.{ENTRY_HEAD, EMPTY_LOG};
 ghost use Rattle.log_format.specs.Form.{most_entries_of, most_bytes_of};
 ghost use Rattle.log_format.specs.Frames.{size_of};
 ghost use Rattle.gated_log.specs.Ledger.{Within, LeavesOut, has_room};
@@ -172,7 +173,7 @@ pub trait Ledger: Drop + Sized {
     fn append<V: Volume>(&mut self, volume: &mut V, frame: &Frame) -> Result<u64, AppendRefused>
         requires live { IsTrue (live self.old) }
         requires primed { IsTrue (primed self.old) }
-        requires ready { IsTrue (ready self.old (5 + length frame.now)) }
+        requires ready { IsTrue (ready self.old (ENTRY_HEAD + length frame.now)) }
         requires reserved { 1 ≤ reserved self.old }
         requires holds { V.tells → (payloads : List (List ℕ)) × holds self.old payloads (V.disk volume.old) }
 
@@ -212,7 +213,7 @@ pub trait Ledger: Drop + Sized {
     ) -> Result<u64, AppendRefused>
         requires live { IsTrue (live self.old) }
         requires primed { IsTrue (primed self.old) }
-        requires ready { IsTrue (ready self.old (5 * length group.now + size_of group.now)) }
+        requires ready { IsTrue (ready self.old (ENTRY_HEAD * length group.now + size_of group.now)) }
         requires reserved { length group.now ≤ reserved self.old }
         requires holds { V.tells → (payloads : List (List ℕ)) × holds self.old payloads (V.disk volume.old) }
 
@@ -341,7 +342,7 @@ pub trait Ledger: Drop + Sized {
 
     /// And no more bytes, as many as one file of that list has.
     ghost undamaged_small: { (form : Form) (name : List ℕ) (files : List ℕ → List ℕ) (payloads : List (List ℕ)) → damage form name files ≡ None
-        → opens_as form name files payloads → 9 + 5 * length payloads + size_of payloads ≤ most_bytes_of form };
+        → opens_as form name files payloads → EMPTY_LOG + ENTRY_HEAD * length payloads + size_of payloads ≤ most_bytes_of form };
 
     /// Files open as one list at most.
     ghost opens_once: { (form : Form) (name : List ℕ) (files : List ℕ → List ℕ) (one other : List (List ℕ)) → opens_as form name files one

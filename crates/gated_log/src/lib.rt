@@ -32,7 +32,8 @@ mod walking;
 pub use ledger::Ledger;
 pub use log::Log;
 pub use log_format::{
-    Damage, Form, Frame, Frames, Payload, Payloads, opens_with_its_doubt, reopens,
+    Damage, EMPTY_LOG, ENTRY_HEAD, Form, Frame, Frames, MAGIC_SIZE, Payload, Payloads,
+    opens_with_its_doubt, reopens,
 };
 pub use refused::{AppendRefused, LoadRefused, PayloadRefused};
 

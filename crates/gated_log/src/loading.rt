@@ -3,6 +3,7 @@ ghost use Rattle.std.specs.Str.{bytes_eq};
 ghost use Rattle.pad_edge.specs.Count.{Rose};
 ghost use Rattle.disk_volume.specs.Disk.{Disk, file_at, at_rest, reads, AtRest, IsImage};
 ghost use Rattle.disk_volume.specs.Moments.{EachSince, Grew, OnlySyncs};
+ghost use Rattle.log_format.specs.declared.layout.TheConstants.{MAGIC_SIZE, EMPTY_LOG};
 ghost use Rattle.log_format.specs.Damages.{damage_of};
 ghost use Rattle.log_format.specs.Form.{magic_of, most_entries_of, most_bytes_of};
 ghost use Rattle.gated_log.specs.declared.extent.Extent.{Extent};
@@ -16,7 +17,7 @@ use crate::piece::{PIECE, read_piece};
 use crate::refused::LoadRefused;
 use crate::walking::find_gate;
 use disk_volume::{Volume, settle};
-use log_format::{Damage, Form};
+use log_format::{Damage, EMPTY_LOG, Form, MAGIC_SIZE};
 
 /// What a load finds in a file.
 #[derive(Clone, Copy, Debug)]
@@ -29,19 +30,22 @@ pub struct Found {
 
 /// What is found in a file of at most nine bytes.
 fn found_short(form: Form, bytes: &[u8]) -> Found
-    requires { length bytes.now ≤ 9 }
+    requires { length bytes.now ≤ EMPTY_LOG }
     ensures { (name : List ℕ) (disk : Disk) → file_at disk name ≡ at_rest bytes.now → IsFound form name disk [] result }
 {
     Found {
         short: bytes != form.empty_log().as_slice(),
-        gate: Gate { place: 8, byte: 0 },
+        gate: Gate {
+            place: MAGIC_SIZE as u64,
+            byte: 0,
+        },
     }
 }
 
 /// What is found in a longer file with this last gate, and this many entries in front of it.
 fn found_gate(form: Form, gate: Gate, count: u64) -> Result<Found, Damage>
     ensures found { (name bytes : List ℕ) (disk : Disk) (index : List Extent) → count ≡ length index → file_at disk name ≡ at_rest bytes
-        → length bytes ≤ most_bytes_of form → take 8 bytes ≡ magic_of form → IsLast bytes (most_entries_of form + 1) index gate
+        → length bytes ≤ most_bytes_of form → take MAGIC_SIZE bytes ≡ magic_of form → IsLast bytes (most_entries_of form + 1) index gate
         → MatchResult result (IsFound form name disk index) (λ damage. damage_of form bytes ≡ Some damage) }
     ensures few { OnOk result (count ≤ most_entries_of form) }
 {
@@ -53,7 +57,7 @@ fn found_gate(form: Form, gate: Gate, count: u64) -> Result<Found, Damage>
 
 /// The damage of a file that begins with these eight bytes, where they are not the magic.
 fn magic_damage(form: Form, head: &[u8]) -> Option<Damage>
-    requires { length head.now ≡ 8 }
+    requires { length head.now ≡ MAGIC_SIZE }
     ensures { MatchOption result (head.now ≡ magic_of form) (λ damage. (damage ≡ Damage.Magic head.now) × (bytes_eq head.now (magic_of form) ≡ false)) }
 {
     if head == form.magic().as_slice() {
@@ -88,10 +92,10 @@ pub fn find_log<V: Volume>(
     ensures later { V.faults volume.old ≤ V.faults volume.new }
 {
     let count = read_piece(volume, file, 0, size, piece)?;
-    if count <= 9 {
+    if count <= EMPTY_LOG {
         return Ok(found_short(form, &piece[..count]));
     }
-    if let Some(damage) = magic_damage(form, &piece[..8]) {
+    if let Some(damage) = magic_damage(form, &piece[..MAGIC_SIZE]) {
         return Err(LoadRefused::Damaged(damage));
     }
     let most = form.most_entries() as usize + 1;

@@ -2,6 +2,7 @@ ghost use Rattle.std.specs.Prelude.{◌≡◌, ◌+◌, ◌-◌, ◌*◌, ◌<�
 ghost use Rattle.pad_edge.specs.Count.{Rose, HasCause};
 ghost use Rattle.disk_volume.specs.Disk.{reads};
 ghost use Rattle.log_format.specs.declared.form.TheConstants.{MOST_BYTES_TWO};
+ghost use Rattle.log_format.specs.declared.layout.TheConstants.{MAGIC_SIZE, ENTRY_HEAD, EMPTY_LOG};
 ghost use Rattle.log_format.specs.File.{is_entry, size_at};
 ghost use Rattle.gated_log.specs.Refused.{MayRefuse};
 ghost use Rattle.gated_log.specs.Inside.Walked.{IsInside, IsStep, IsAhead, IsGoing, IsLast};
@@ -12,18 +13,19 @@ use crate::piece::{PIECE, end_seen, read_piece};
 use crate::refused::LoadRefused;
 use crate::walk::{Step, Walk};
 use disk_volume::Volume;
+use log_format::{ENTRY_HEAD, MAGIC_SIZE};
 use std::alloc::AllocError;
 
 /// The length of the payload of the entry at a gate, where there is one: `gate` has the first five bytes from there on,
 /// and `left` is how many the file has.
 fn entry_size(gate: &[u8], left: u64) -> Option<u64>
-    requires { length gate.now ≡ 5 }
-    ensures entry { (bytes : List ℕ) → gate.now ≡ take 5 bytes → left ≡ length bytes
+    requires { length gate.now ≡ ENTRY_HEAD }
+    ensures entry { (bytes : List ℕ) → gate.now ≡ take ENTRY_HEAD bytes → left ≡ length bytes
         → MatchOption result (is_entry bytes ≡ false) (λ size. (is_entry bytes ≡ true) × (size ≡ size_at bytes)) }
-    ensures fits { IfSome result (λ size. size + 6 ≤ left) }
+    ensures fits { IfSome result (λ size. size + (ENTRY_HEAD + 1) ≤ left) }
 {
     let size = u64::from(u32::from_be_bytes([gate[1], gate[2], gate[3], gate[4]]));
-    if gate[0] == 1 && size + 6 <= left {
+    if gate[0] == 1 && size + ENTRY_HEAD + 1 <= left {
         Some(size)
     } else {
         None
@@ -32,15 +34,15 @@ fn entry_size(gate: &[u8], left: u64) -> Option<u64>
 
 /// The same, where `shown` has the first five bytes at least, or there are no more than five.
 fn shown_size(shown: &[u8], left: u64) -> Option<u64>
-    requires { 5 < left → 5 ≤ length shown.now }
+    requires { ENTRY_HEAD < left → ENTRY_HEAD ≤ length shown.now }
     ensures entry { (bytes : List ℕ) → shown.now ≡ take (length shown.now) bytes → left ≡ length bytes
         → MatchOption result (is_entry bytes ≡ false) (λ size. (is_entry bytes ≡ true) × (size ≡ size_at bytes)) }
-    ensures fits { IfSome result (λ size. size + 6 ≤ left) }
+    ensures fits { IfSome result (λ size. size + (ENTRY_HEAD + 1) ≤ left) }
 {
-    if left <= 5 {
+    if left <= ENTRY_HEAD {
         return None;
     }
-    entry_size(&shown[..5], left)
+    entry_size(&shown[..ENTRY_HEAD as usize], left)
 }
 
 /// Goes on over the entries that a piece of the file shows, and adds them to the index, up to `most` in all. The piece
@@ -53,7 +55,7 @@ fn go_over(
 ) -> Result<Step, AllocError>
     requires inside { IsInside walk }
     requires some { 1 ≤ length piece.now }
-    requires whole { (5 ≤ length piece.now) ⊎ (walk.end ≡ walk.gate + length piece.now) }
+    requires whole { (ENTRY_HEAD ≤ length piece.now) ⊎ (walk.end ≡ walk.gate + length piece.now) }
     ensures step { IfOk result (λ step. (bytes : List ℕ) → length bytes ≡ walk.end → piece.now ≡ take (length piece.now) (drop walk.gate bytes)
         → IsStep bytes walk most index.old.items index.new.items step) }
     ensures ahead { IfOk result (IsAhead walk (length piece.now)) }
@@ -63,7 +65,7 @@ fn go_over(
     while walk.gate < until {
         let at = (walk.gate - from) as usize;
         let left = walk.end - walk.gate;
-        if index.len() < most && piece.len() - at < 5 && 5 < left {
+        if index.len() < most && piece.len() - at < ENTRY_HEAD as usize && ENTRY_HEAD < left {
             return Ok(Step::On(walk));
         }
         let byte = piece[at];
@@ -77,11 +79,11 @@ fn go_over(
         match shown_size(&piece[at..], left) {
             Some(size) => {
                 index.push(Extent {
-                    place: (walk.gate + 5) as u32,
+                    place: (walk.gate + ENTRY_HEAD) as u32,
                     size: size as u32,
                 })?;
                 walk.before = walk.gate;
-                walk.gate += 5 + size;
+                walk.gate += ENTRY_HEAD + size;
             }
             None => return Ok(Step::Last(last)),
         }
@@ -99,7 +101,7 @@ fn next_step(
     index: &mut Vec<Extent>,
 ) -> Result<Step, AllocError>
     requires inside { IsInside walk }
-    requires buffer { 5 ≤ buffer }
+    requires buffer { ENTRY_HEAD ≤ buffer }
     requires within { length piece.now ≤ min buffer (walk.end - walk.gate) }
     ensures step { IfOk result (λ step. (bytes : List ℕ) → length bytes ≡ walk.end → piece.now ≡ take (length piece.now) (drop walk.gate bytes)
         → length piece.now ≡ min buffer (walk.end - walk.gate) → IsStep bytes walk most index.old.items index.new.items step) }
@@ -127,7 +129,7 @@ fn go_on<V: Volume>(
     index: &mut Vec<Extent>,
 ) -> Result<Step, LoadRefused>
     requires inside { IsInside walk }
-    requires buffer { 5 ≤ length piece.old }
+    requires buffer { ENTRY_HEAD ≤ length piece.old }
     requires told { V.tells → walk.end ≤ length (reads (V.disk volume.old) file.now) }
     ensures step { V.tells → IfOk result (IsStep (take walk.end (reads (V.disk volume.old) file.now)) walk most index.old.items index.new.items) }
     ensures ahead { IfOk result (IsAhead walk (length piece.old)) }
@@ -185,7 +187,7 @@ pub fn find_gate<V: Volume>(
     piece: &mut [u8],
     index: &mut Vec<Extent>,
 ) -> Result<Gate, LoadRefused>
-    requires some { 9 < count }
+    requires some { EMPTY_LOG < count }
     requires within { count ≤ min PIECE size }
     requires small { size ≤ MOST_BYTES_TWO }
     requires buffer { length piece.old ≡ PIECE }
@@ -202,12 +204,12 @@ pub fn find_gate<V: Volume>(
     ensures later { V.faults volume.old ≤ V.faults volume.new }
 {
     let walk = Walk {
-        before: 8,
-        gate: 8,
+        before: MAGIC_SIZE as u64,
+        gate: MAGIC_SIZE as u64,
         end: size,
     };
-    let buffer = piece.len() - 8;
-    match next_step(walk, &piece[8..count], buffer, most, index)? {
+    let buffer = piece.len() - MAGIC_SIZE;
+    match next_step(walk, &piece[MAGIC_SIZE..count], buffer, most, index)? {
         Step::On(next) => go_through(volume, file, next, most, piece, index),
         Step::Last(gate) => Ok(gate),
     }

@@ -1,11 +1,13 @@
 ghost use Rattle.std.specs.Prelude.{◌≡◌, ◌++◌, [], ◌∷◌};
 ghost use Rattle.log_format.specs.Form.{magic_of, most_entries_of, most_bytes_of};
 
+use crate::layout::{EMPTY_LOG, MAGIC_SIZE};
+
 /// The first eight bytes of a file of form One.
-pub const MAGIC_ONE: [u8; 8] = *b"PADLOG1\n";
+pub const MAGIC_ONE: [u8; MAGIC_SIZE] = *b"PADLOG1\n";
 
 /// The first eight bytes of a file of form Two.
-pub const MAGIC_TWO: [u8; 8] = *b"PADLOG2\n";
+pub const MAGIC_TWO: [u8; MAGIC_SIZE] = *b"PADLOG2\n";
 
 /// The most entries that a log of form One may have.
 pub const MOST_ENTRIES_ONE: u64 = 1_048_576;
@@ -30,7 +32,7 @@ pub enum Form {
 
 impl Form {
     /// The magic: the first eight bytes of a file.
-    pub fn magic(self) -> [u8; 8]
+    pub fn magic(self) -> [u8; MAGIC_SIZE]
         ensures { result ≡ magic_of self }
     {
         match self {
@@ -40,7 +42,7 @@ impl Form {
     }
 
     /// The file of a log without entries: the magic and a closed gate.
-    pub fn empty_log(self) -> [u8; 9]
+    pub fn empty_log(self) -> [u8; EMPTY_LOG]
         ensures { result ≡ magic_of self ++ 0 ∷ [] }
     {
         match self {

@@ -1,6 +1,8 @@
 ghost use Rattle.std.specs.Prelude.{◌≡◌, ◌+◌, ◌≤◌, ◌++◌, [], ◌∷◌, length, IfOk};
+ghost use Rattle.log_format.specs.declared.layout.TheConstants.{ENTRY_HEAD};
 ghost use Rattle.log_format.specs.Frame.{IsFrame};
 
+use crate::layout::ENTRY_HEAD;
 use crate::record::push_record;
 use std::alloc::{AllocError, Global};
 use std::marker::Model;
@@ -33,14 +35,14 @@ impl Frame {
         requires { length payload.now ≤ LONGEST_PAYLOAD }
         ensures { IfOk result (λ frame. frame ≡ payload.now) }
     {
-        let mut bytes = Vec::with_capacity(alloc, payload.len() + 5)?;
+        let mut bytes = Vec::with_capacity(alloc, payload.len() + ENTRY_HEAD as usize)?;
         push_record(&mut bytes, payload, 0)?;
         Ok(Frame { bytes })
     }
 
     /// How many bytes the entry has in a file: five and the payload.
     pub fn size(&self) -> u64
-        ensures { result ≡ 5 + length self.now }
+        ensures { result ≡ ENTRY_HEAD + length self.now }
     {
         self.bytes.len() as u64
     }

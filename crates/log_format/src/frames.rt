@@ -1,4 +1,5 @@
 ghost use Rattle.std.specs.Prelude.{◌≡◌, ◌+◌, ◌*◌, ◌≤◌, length, IfOk};
+ghost use Rattle.log_format.specs.declared.layout.TheConstants.{ENTRY_HEAD};
 ghost use Rattle.log_format.specs.Frames.{AreFew, IsGroup, sizes_of, size_of};
 
 use crate::payloads::Payloads;
@@ -54,7 +55,7 @@ impl Frames {
 
     /// How many bytes the entries have in a file: five and the payload each.
     pub fn size(&self) -> u64
-        ensures { result ≡ 5 * length self.now + size_of self.now }
+        ensures { result ≡ ENTRY_HEAD * length self.now + size_of self.now }
     {
         self.bytes.len() as u64
     }

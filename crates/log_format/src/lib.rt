@@ -15,6 +15,7 @@ mod form;
 mod frame;
 mod frames;
 mod laws;
+mod layout;
 mod payload;
 mod payloads;
 mod record;
@@ -26,5 +27,6 @@ pub use form::{
 pub use frame::{Frame, LONGEST_PAYLOAD};
 pub use frames::{Frames, MOST_FRAMES};
 pub use laws::{opens_with_its_doubt, reopens};
+pub use layout::{EMPTY_LOG, ENTRY_HEAD, MAGIC_SIZE};
 pub use payload::Payload;
 pub use payloads::Payloads;

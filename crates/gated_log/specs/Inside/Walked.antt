@@ -1,6 +1,7 @@
 -- A walk over the entries of a file.
-use Rattle.std.specs.Prelude.{◌≡◌, ℕ, ◌+◌, ◌<◌, ◌≤◌, ◌⊎◌, false, List, ◌++◌, length, drop, slice_index}
+use Rattle.std.specs.Prelude.{◌≡◌, ℕ, ◌+◌, ◌-◌, ◌<◌, ◌≤◌, ◌⊎◌, false, List, ◌++◌, length, drop, slice_index}
 use Rattle.log_format.specs.declared.form.TheConstants.{MOST_BYTES_TWO}
+use Rattle.log_format.specs.declared.layout.TheConstants.{MAGIC_SIZE, ENTRY_HEAD}
 use Rattle.log_format.specs.File.{is_entry, IsEntries}
 use Rattle.gated_log.specs.declared.extent.Extent.{Extent}
 use Rattle.gated_log.specs.declared.gate.Gate.{Gate}
@@ -19,7 +20,7 @@ pub record Walked (bytes : List ℕ) (from to : ℕ) (payloads : List (List ℕ)
 
 -- a walk behind the magic of a file, and within it
 pub record IsInside (walk : Walk) : Type 0 where
-  pub behind_magic : 8 ≤ walk.before
+  pub behind_magic : MAGIC_SIZE ≤ walk.before
   pub forward : walk.before ≤ walk.gate
   pub inside : walk.gate < walk.end
   pub small : walk.end ≤ MOST_BYTES_TWO
@@ -43,19 +44,19 @@ IsStep bytes walk most before after (Last gate) = IsOver bytes walk.gate gate.pl
 -- A step over a piece of this many bytes goes past all but the last four of them, and where bytes of the piece are left,
 -- to a gate that more than five bytes follow. Or it ends the walk.
 abbrev pub IsAhead : (walk : Walk) (size : ℕ) → Step → Type 0
-IsAhead walk size (On next) = IsInside next × (walk.gate + size ≤ next.gate + 4) × (next.end ≤ walk.end) × (5 ≤ size) × ((next.gate + 5 < next.end) ⊎ (walk.gate + size ≤ next.gate))
+IsAhead walk size (On next) = IsInside next × (walk.gate + size ≤ next.gate + (ENTRY_HEAD - 1)) × (next.end ≤ walk.end) × (ENTRY_HEAD ≤ size) × ((next.gate + ENTRY_HEAD < next.end) ⊎ (walk.gate + size ≤ next.gate))
 IsAhead walk size (Last gate) = Unit {0}
 
 -- a walk from the first gate on, with the index of what it went over
 pub record IsGoing (bytes : List ℕ) (end : ℕ) (walk : Walk) (index : List Extent) : Type 0 where
   pub payloads : List (List ℕ)
-  pub walked : Walked bytes 8 walk.gate payloads
-  pub indexed : index ≡ extents 8 payloads
+  pub walked : Walked bytes MAGIC_SIZE walk.gate payloads
+  pub indexed : index ≡ extents MAGIC_SIZE payloads
   pub same_end : walk.end ≡ end
 
 -- a walk from the first gate ended at this one
 pub record IsLast (bytes : List ℕ) (most : ℕ) (index : List Extent) (gate : Gate) : Type 0 where
   pub payloads : List (List ℕ)
-  pub walked : Walked bytes 8 gate.place payloads
-  pub indexed : index ≡ extents 8 payloads
+  pub walked : Walked bytes MAGIC_SIZE gate.place payloads
+  pub indexed : index ≡ extents MAGIC_SIZE payloads
   pub ends : Ends bytes most index gate

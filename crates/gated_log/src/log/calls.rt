@@ -26,7 +26,7 @@ use crate::reading::read_payload;
 use crate::refused::{AppendRefused, LoadRefused, PayloadRefused};
 use crate::restarting::empty_file;
 use disk_volume::Volume;
-use log_format::{Form, Frame, Frames, Payload};
+use log_format::{ENTRY_HEAD, Form, Frame, Frames, MAGIC_SIZE, Payload};
 use std::alloc::{AllocError, Global};
 
 impl Ledger for Log {
@@ -170,7 +170,10 @@ impl Ledger for Log {
             form: Form::Two,
             file: name,
             short: true,
-            gate: Gate { place: 8, byte: 0 },
+            gate: Gate {
+                place: MAGIC_SIZE as u64,
+                byte: 0,
+            },
             index: Vec::new(alloc),
             live: true,
         })
@@ -237,7 +240,7 @@ impl Ledger for Log {
     }
 
     fn append<V: Volume>(&mut self, volume: &mut V, frame: &Frame) -> Result<u64, AppendRefused> {
-        let size = frame.size() - 5;
+        let size = frame.size() - ENTRY_HEAD;
         if !self.room(1, size) {
             return Err(AppendRefused::Full);
         }
@@ -251,7 +254,7 @@ impl Ledger for Log {
     ) -> Result<u64, AppendRefused> {
         let sizes = group.sizes();
         let entries = sizes.len() as u64;
-        if !self.room(entries, group.size() - 5 * entries) {
+        if !self.room(entries, group.size() - ENTRY_HEAD * entries) {
             return Err(AppendRefused::Full);
         }
         self.add_entries(volume, group.as_slice(), sizes)
@@ -274,7 +277,7 @@ impl Ledger for Log {
     fn room(&self, entries: u64, bytes: u64) -> bool {
         let count = (self.index.len() as u64).saturating_add(entries);
         let size = entries
-            .saturating_mul(5)
+            .saturating_mul(ENTRY_HEAD)
             .saturating_add(bytes)
             .saturating_add(self.gate.place)
             .saturating_add(1);

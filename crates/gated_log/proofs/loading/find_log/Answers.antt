@@ -11,8 +11,8 @@ returns-in-Some-clause-damaged g c = λ told.
     let bytes = reads (g.V.Volume.disk c.args.volume.now) c.args.file.now in
     let size = (c.requires.told told).1 in
     let came = c.in_ok-count.ensures.bytes told in
-    magic_found c.args.form bytes (take 8 c.read_piece.new.piece) (omega (arith, c.requires.small, size)) (omega (arith, came.0, c.if-count-le9.false, size))
-    (head_read c.read_piece.new.piece bytes c.in_ok-count.count c.args.size came.1 (omega (arith, c.if-count-le9.false)) size) c.in-Some.ensures.1
+    magic_found c.args.form bytes (take 8 c.read_piece.new.piece) (omega (arith, c.requires.small, size)) (omega (arith, came.0, c.if-count-le-EMPTY_LOG.false, size))
+    (head_read c.read_piece.new.piece bytes c.in_ok-count.count c.args.size came.1 (omega (arith, c.if-count-le-EMPTY_LOG.false)) size) c.in-Some.ensures.1
     ∙ ap Some (sym c.in-Some.ensures.0)
 
 pub returns-clause-found : goal.returns-clause-found
@@ -26,7 +26,7 @@ returns-clause-found g c = λ told.
     let P : List ℕ → ℕ → Type 0 = λ file most. IsLast file most c.find_gate.new.index.items c.in_ok-gate.gate in
     let Q : ℕ → Type 0 = λ most. P bytes (most + 1) in
     let ended = subst Q c.most_entries.ensures (subst (λ (file : List ℕ). P file (c.most_entries.result + 1)) same last) in
-    let head = sym (head_read c.read_piece.new.piece bytes c.in_ok-count.count c.args.size came.1 (omega (arith, c.if-count-le9.false)) size) ∙ c.in_default.ensures in
+    let head = sym (head_read c.read_piece.new.piece bytes c.in_ok-count.count c.args.size came.1 (omega (arith, c.if-count-le-EMPTY_LOG.false)) size) ∙ c.in_default.ensures in
     c.in_ok-found_gate.ensures.found c.args.file.now bytes (g.V.Volume.disk c.args.volume.now) c.find_gate.new.index.items (c.len.ensures ∙ c.find_gate.new.index.ok.0) (c.requires.told told).0
     (omega (arith, c.requires.small, size)) head ended
 
@@ -41,6 +41,6 @@ returns-in_err-found_gate-clause-damaged g c = let p = err_from_is_err_and c.fro
     let P : List ℕ → ℕ → Type 0 = λ file most. IsLast file most c.find_gate.new.index.items c.in_ok-gate.gate in
     let Q : ℕ → Type 0 = λ most. P bytes (most + 1) in
     let ended = subst Q c.most_entries.ensures (subst (λ (file : List ℕ). P file (c.most_entries.result + 1)) same last) in
-    let head = sym (head_read c.read_piece.new.piece bytes c.in_ok-count.count c.args.size came.1 (omega (arith, c.if-count-le9.false)) size) ∙ c.in_default.ensures in
+    let head = sym (head_read c.read_piece.new.piece bytes c.in_ok-count.count c.args.size came.1 (omega (arith, c.if-count-le-EMPTY_LOG.false)) size) ∙ c.in_default.ensures in
     c.in_err-found_gate.ensures.found c.args.file.now bytes (g.V.Volume.disk c.args.volume.now) c.find_gate.new.index.items (c.len.ensures ∙ c.find_gate.new.index.ok.0) (c.requires.told told).0
     (omega (arith, c.requires.small, size)) head ended)
