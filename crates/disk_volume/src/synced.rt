@@ -62,6 +62,7 @@ mod tests {
         settle(&mut volume, "a")?;
         volume.stop_at(volume.calls(), Pick::Old);
         assert!(&rt; write_synced(&mut volume, "a", 0, b"third").is_err());
+        assert!(&rt; volume.has_stopped());
         let mut image = volume.image(alloc)?;
         let mut bytes = [0; 8];
         let count = image.read_at("a", 0, &mut bytes)?;
