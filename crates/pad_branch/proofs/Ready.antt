@@ -10,7 +10,8 @@ use Rattle.pad_model.specs.declared.base.Base.{Base}
 use Rattle.pad_model.specs.Path.{last_name, IsLinkedPath}
 use Rattle.pad_model.specs.Best.{IsBetter}
 use Rattle.pad_model.specs.Choice.{RunsThrough}
-use Rattle.pad_model.proofs.CallerLemmas.{linked_unique, mapped_from}
+use Rattle.pad_list.proofs.CallerLemmas.{mapped_from}
+use Rattle.pad_model.proofs.CallerLemmas.{linked_unique}
 use Rattle.pad_graph.specs.declared.linking.Linking.{Linking}
 use Rattle.pad_graph.specs.State as graph
 use Rattle.pad_branch.specs.declared.candidate.Candidate.{Candidate}
