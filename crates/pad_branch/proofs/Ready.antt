@@ -1,5 +1,5 @@
 -- What the choice stands on, by candidates.
-use Rattle.std.proofs.Common.{◌≡◌, ℕ, ◌+◌, ◌<◌, ◌≤◌, ◌⊎◌, inl, inr, List, [], ◌∷◌, ◌++◌, length, map, reverse, get_or, All, Contains, Option, refl, sym, ap, ◌∙◌, subst, arith, length-append}
+use Rattle.std.proofs.Common.{◌≡◌, ℕ, ◌+◌, ◌<◌, ◌≤◌, ◌⊎◌, inl, inr, List, [], ◌∷◌, ◌++◌, length, map, reverse, get_or, All, Contains, Option, Some, None, IfSome, IfOk, Result, Ok, Err, refl, sym, ap, ◌∙◌, subst, arith, length-append}
 use Rattle.std.proofs.lemmas.List.{length-reverse}
 use Rattle.std.proofs.lemmas.List.Elements.{All-contains, Contains-get_or}
 use Rattle.pad_text.specs.declared.name.Name.{Name}
@@ -16,6 +16,7 @@ use Rattle.pad_graph.specs.declared.linking.Linking.{Linking}
 use Rattle.pad_graph.specs.State as graph
 use Rattle.pad_branch.specs.declared.candidate.Candidate.{Candidate}
 use Rattle.pad_branch.specs.declared.held.Held.{Held}
+use Rattle.pad_branch.specs.declared.tip.Tip.{Tip}
 use Rattle.pad_branch.specs.Tip.{IsTip, tip_after}
 use Rattle.pad_branch.specs.Branch.{State, tip_of, height_of}
 use Rattle.pad_branch.specs.Choice.{IsEnd, IsReady}
@@ -89,3 +90,32 @@ heights_of linkings name height longest most cs each all k d inside =
     let o = each (get_or cs k d) (Contains-get_or cs k d inside) in
     let low = All-contains (λ (x : Linking). x.height ≤ most) linkings o.linking all o.among in
     omega (arith, ap (λ (c : Candidate). c.height.0) o.is, low)
+
+-- ---- the same with what a call says of the branch's end
+
+pub ready_at : (b : Base) (R : List Message) (m : Message) (below chosen : List Message) (branch here : State) (table : Name → Option Held) (names : graph.State) (found : List Name) (linkings : List Linking) (tip : Tip) (height longest : ℕ) (cs seen : List Candidate)
+    → here ≡ branch → tip ≡ tip_of branch → height ≡ height_of branch → longest ≡ names.known → seen ≡ cs
+    → ((c : Candidate) → Contains cs c → IsOneOf linkings tip.name height longest c)
+    → ((x : Linking) → Contains linkings x → BettersWithin x tip.name height longest → Contains cs (candidate_of x))
+    → IsReady b R m below chosen branch table names found linkings → AreReady b R m below chosen here table names.children longest found seen
+ready_at b R m below chosen branch here table names found linkings tip height longest cs seen here_is tip_is height_is longest_is seen_is each every ready =
+    let lower = subst (λ n. (c : Candidate) → Contains cs c → IsOneOf linkings n height longest c) (ap (λ (t : Tip). t.name) tip_is) each in
+    let lower2 = subst (λ h. (c : Candidate) → Contains cs c → IsOneOf linkings (tip_of branch).name h longest c) height_is lower in
+    let lower3 = subst (λ k. (c : Candidate) → Contains cs c → IsOneOf linkings (tip_of branch).name (height_of branch) k c) longest_is lower2 in
+    let upper = subst (λ n. (x : Linking) → Contains linkings x → BettersWithin x n height longest → Contains cs (candidate_of x)) (ap (λ (t : Tip). t.name) tip_is) every in
+    let upper2 = subst (λ h. (x : Linking) → Contains linkings x → BettersWithin x (tip_of branch).name h longest → Contains cs (candidate_of x)) height_is upper in
+    let upper3 = subst (λ k. (x : Linking) → Contains linkings x → BettersWithin x (tip_of branch).name (height_of branch) k → Contains cs (candidate_of x)) longest_is upper2 in
+    subst (λ k. AreReady b R m below chosen here table names.children k found seen) (sym longest_is)
+    (subst (AreReady b R m below chosen here table names.children names.known found) (sym seen_is)
+    (subst (λ s. AreReady b R m below chosen s table names.children names.known found cs) (sym here_is)
+    (are_ready b R m below chosen branch table names found linkings ready cs lower3 upper3)))
+
+-- ---- what holds of a value
+
+pub on_ok : {A E : Type 0} {P Q : A → Type 0} (r : Result A E) → ((x : A) → P x → Q x) → IfOk r P → IfOk r Q
+on_ok (Ok x) f h = f x h
+on_ok (Err e) f h = tt
+
+pub on_some : {A : Type 0} {P Q : A → Type 0} (o : Option A) → ((x : A) → P x → Q x) → IfSome o P → IfSome o Q
+on_some (Some x) f h = f x h
+on_some None f h = tt
