@@ -1,6 +1,7 @@
 -- What was applied can be taken back.
 use Rattle.std.proofs.Common.{◌≡◌, ℕ, ◌+◌, ◌-◌, ◌≤◌, ◌<◌, List, [], ◌∷◌, ◌++◌, length, take, drop, reverse, map, Option, Some, IfSome, true, refl, sym, ap, ◌∙◌, subst, arith, length-append, append-nil}
 use Rattle.std.specs.List.{flat_map}
+use Rattle.std.proofs.lemmas.List.{length-reverse}
 use Rattle.pad_text.specs.declared.name.Name.{Name}
 use Rattle.pad_text.specs.Hash.{document_hash}
 use Rattle.pad_patch.specs.declared.patch.Patch.{Patch}
@@ -83,3 +84,7 @@ rewinds_on table kept root tip low under units tip_is r (u ∷ us) after (held, 
     (stands_next held.message before (tip_after tip us) u after g (low + length (us ++ under)) kept_as.interval stands,
     back held.message before (tip_after tip us) u after g,
     subst (Rewinds root low (us ++ under)) (sym g.undoes) below)
+
+-- at the end of a branch that rewinds
+pub end_stands : (root : Tip) (low : ℕ) (undos : List Undo) (units : List ℕ) → Rewinds root low (reverse undos) units → IsTipOf (tip_after root (reverse undos)) (low + length undos) units
+end_stands root low undos units h = subst (λ n. IsTipOf (tip_after root (reverse undos)) (low + n) units) (length-reverse undos) (tip_stands root low (reverse undos) units h)

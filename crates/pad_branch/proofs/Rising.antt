@@ -27,7 +27,7 @@ trunk_stays b R below chosen m branch differ t = record {
   text = t.text;
 }
 
-take_all : {A : Type 0} (xs : List A) → take (length xs) xs ≡ xs
+pub take_all : {A : Type 0} (xs : List A) → take (length xs) xs ≡ xs
 take_all [] = refl
 take_all (x ∷ xs) = ap (λ q. x ∷ q) (take_all xs)
 

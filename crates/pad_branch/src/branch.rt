@@ -11,7 +11,8 @@ ghost use Rattle.pad_model.specs.declared.base.Base.{Base};
 ghost use Rattle.pad_model.specs.Path.{last_name, IsLinkedPath};
 ghost use Rattle.pad_model.specs.Choice.{IsBestThrough};
 ghost use Rattle.pad_graph.specs.State.{name_cmp, state_of};
-ghost use Rattle.pad_branch.specs.Tip.{tip_after};
+ghost use Rattle.pad_branch.specs.Tip.{IsTipOf, tip_after};
+ghost use Rattle.pad_branch.specs.Undo.{Rewinds};
 ghost use Rattle.pad_branch.specs.Held.{IsHeldAs, HoldsKept};
 ghost use Rattle.pad_branch.specs.Pathless.{KnowsPathless, AreFound, pathless_in};
 ghost use Rattle.pad_branch.specs.Choice.{IsReady};
@@ -97,13 +98,15 @@ impl<S: UnitStore> Branch<S> {
     /// The tip at the end.
     pub fn tip(&self) -> Tip
         ensures is { result ≡ tip_of self.now.branch }
+        ensures stands { IsTipOf result (height_of self.now.branch) self.now.branch.units }
     {
         tip_at(self.undos.as_slice(), &self.root, self.undos.len())
     }
 
     /// The height of the end.
     pub fn height(&self) -> u64
-        ensures { result ≡ height_of self.now.branch }
+        ensures is { result ≡ height_of self.now.branch }
+        ensures few { result + 1 < 2 ^ 64 }
     {
         self.low + self.undos.len() as u64
     }
@@ -124,7 +127,8 @@ impl<S: UnitStore> Branch<S> {
 
     /// Lends the undos of the messages above the root, the oldest first.
     pub fn undos(&self) -> &[Undo]
-        ensures { result.now ≡ self.now.branch.undos }
+        ensures are { result.now ≡ self.now.branch.undos }
+        ensures rewinds { Rewinds self.now.branch.root self.now.branch.low (reverse self.now.branch.undos) self.now.branch.units }
     {
         self.undos.as_slice()
     }
