@@ -1,6 +1,6 @@
 -- Two paths that part at a fork have no message above it in common.
-use Rattle.std.proofs.Common.{◌≡◌, ◌≢◌, ℕ, zero, suc, ◌+◌, ◌-◌, ◌≤◌, ◌⊎◌, inl, inr, List, [], ◌∷◌, ◌++◌, length, take, drop, map, reverse, Contains, Option, Some, None, IsSome, IfSome, All, slice_get, append_assoc, refl, sym, ap, ◌∙◌, subst, arith, length-append}
-use Rattle.std.specs.List.{filter_map, cons_option}
+use Rattle.std.proofs.Common.{◌≡◌, ◌≢◌, ℕ, zero, suc, ◌-◌, ◌≤◌, ◌⊎◌, inl, inr, List, [], ◌∷◌, ◌++◌, length, take, drop, map, reverse, Contains, Option, Some, None, IsSome, IfSome, All, slice_get, append_assoc, refl, sym, ap, ◌∙◌, subst, arith, length-append}
+use Rattle.std.specs.List.{cons_option}
 use Rattle.std.proofs.lemmas.List.{same_from_push, length-reverse, length-map, reverse-append}
 use Rattle.std.proofs.lemmas.List.Elements.{All-head, All-tail, filter_map-append}
 use Rattle.pad_text.specs.declared.name.Name.{Name}
@@ -8,7 +8,7 @@ use Rattle.pad_patch.proofs.CallerLemmas.{map-take}
 use Rattle.pad_message.specs.declared.message.Message.{Message}
 use Rattle.pad_message.specs.Message.{name_of}
 use Rattle.pad_model.specs.declared.base.Base.{Base}
-use Rattle.pad_model.specs.Path.{last_name, IsLinkedPath, NamesDiffer}
+use Rattle.pad_model.specs.Path.{IsLinkedPath, NamesDiffer}
 use Rattle.pad_list.proofs.CallerLemmas.{contains_cases, contains_none}
 use Rattle.pad_model.proofs.CallerLemmas.{linked_unique, linked_below}
 use Rattle.pad_branch.specs.declared.held.Held.{Held}
@@ -96,70 +96,70 @@ joined_named table new names e =
     twice (x ∷ xs) = ap reverse (reverse-append (x ∷ []) xs) ∙ reverse-append (reverse xs) (x ∷ []) ∙ ap (λ q. x ∷ q) (twice xs)
 
 module _ (b : Base) (R below chosen : List Message) (d : NamesDiffer R) (chosen_linked : IsLinkedPath b R (chosen ++ below)) (undos : List Undo) (named : AreNamed chosen (reverse undos))
-  (keep : ℕ) (fits : keep ≤ length undos) (joined : List Message) (names : List Name) (joined_names : map name_of joined ≡ names) (linked : IsLinkedPath b R (joined ++ (drop (length chosen - keep) chosen ++ below)))
-  (fork : (front : List Name) (last : Name) (undo : Undo) → names ≡ front ++ last ∷ [] → slice_get undos keep ≡ Some undo → undone_name undo ≢ last)
+    (keep : ℕ) (fits : keep ≤ length undos) (joined : List Message) (names : List Name) (joined_names : map name_of joined ≡ names) (linked : IsLinkedPath b R (joined ++ (drop (length chosen - keep) chosen ++ below)))
+    (fork : (front : List Name) (last : Name) (undo : Undo) → names ≡ front ++ last ∷ [] → slice_get undos keep ≡ Some undo → undone_name undo ≢ last)
   where
-  many : length undos - keep ≡ length chosen - keep
-  many =
-      let len : length chosen ≡ length undos = sym (length-map chosen name_of) ∙ ap length named ∙ length-map (reverse undos) undone_name ∙ length-reverse undos in
-      ap (λ n. n - keep) (sym len)
+    many : length undos - keep ≡ length chosen - keep
+    many =
+        let len : length chosen ≡ length undos = sym (length-map chosen name_of) ∙ ap length named ∙ length-map (reverse undos) undone_name ∙ length-reverse undos in
+        ap (λ n. n - keep) (sym len)
 
-  left_names : map name_of (take (length chosen - keep) chosen) ≡ map undone_name (reverse (drop keep undos))
-  left_names =
-      map-take name_of (length chosen - keep) chosen
-      ∙ ap (take (length chosen - keep)) named
-      ∙ sym (map-take undone_name (length chosen - keep) (reverse undos))
-      ∙ ap (λ k. map undone_name (take k (reverse undos))) (sym many)
-      ∙ ap (map undone_name) (take_reverse undos keep)
+    left_names : map name_of (take (length chosen - keep) chosen) ≡ map undone_name (reverse (drop keep undos))
+    left_names =
+        map-take name_of (length chosen - keep) chosen
+        ∙ ap (take (length chosen - keep)) named
+        ∙ sym (map-take undone_name (length chosen - keep) (reverse undos))
+        ∙ ap (λ k. map undone_name (take k (reverse undos))) (sym many)
+        ∙ ap (map undone_name) (take_reverse undos keep)
 
-  tail_same : (m : Message) (xs ys : List Message) → m ∷ xs ≡ m ∷ ys → xs ≡ ys
-  tail_same m xs ys e = cc
+    tail_same : (m : Message) (xs ys : List Message) → m ∷ xs ≡ m ∷ ys → xs ≡ ys
+    tail_same m xs ys e = cc
 
-  pub apart : (m : Message) → Contains (take (length chosen - keep) chosen) m → ¬ (Contains joined m)
-  apart m in_left in_joined = which (drop keep undos) refl
-    where
-      l : Split m (take (length chosen - keep) chosen)
-      l = split m (take (length chosen - keep) chosen) in_left
+    pub apart : (m : Message) → Contains (take (length chosen - keep) chosen) m → ¬ (Contains joined m)
+    apart m in_left in_joined = which (drop keep undos) refl
+      where
+        l : Split m (take (length chosen - keep) chosen)
+        l = split m (take (length chosen - keep) chosen) in_left
 
-      j : Split m joined
-      j = split m joined in_joined
+        j : Split m joined
+        j = split m joined in_joined
 
-      common : List Message
-      common = drop (length chosen - keep) chosen ++ below
+        common : List Message
+        common = drop (length chosen - keep) chosen ++ below
 
-      under_left : IsLinkedPath b R (m ∷ (l.after ++ (drop (length chosen - keep) chosen ++ below)))
-      under_left = linked_below b R l.before (m ∷ (l.after ++ (drop (length chosen - keep) chosen ++ below)))
-          (subst (IsLinkedPath b R) (split_at (length chosen - keep) chosen below ∙ ap (λ q. q ++ (drop (length chosen - keep) chosen ++ below)) l.whole ∙ append_assoc l.before (m ∷ l.after) (drop (length chosen - keep) chosen ++ below)) chosen_linked)
+        under_left : IsLinkedPath b R (m ∷ (l.after ++ (drop (length chosen - keep) chosen ++ below)))
+        under_left = linked_below b R l.before (m ∷ (l.after ++ (drop (length chosen - keep) chosen ++ below)))
+            (subst (IsLinkedPath b R) (split_at (length chosen - keep) chosen below ∙ ap (λ q. q ++ (drop (length chosen - keep) chosen ++ below)) l.whole ∙ append_assoc l.before (m ∷ l.after) (drop (length chosen - keep) chosen ++ below)) chosen_linked)
 
-      under_joined : IsLinkedPath b R (m ∷ (j.after ++ (drop (length chosen - keep) chosen ++ below)))
-      under_joined = linked_below b R j.before (m ∷ (j.after ++ (drop (length chosen - keep) chosen ++ below)))
-          (subst (IsLinkedPath b R) (ap (λ q. q ++ (drop (length chosen - keep) chosen ++ below)) j.whole ∙ append_assoc j.before (m ∷ j.after) (drop (length chosen - keep) chosen ++ below)) linked)
+        under_joined : IsLinkedPath b R (m ∷ (j.after ++ (drop (length chosen - keep) chosen ++ below)))
+        under_joined = linked_below b R j.before (m ∷ (j.after ++ (drop (length chosen - keep) chosen ++ below)))
+            (subst (IsLinkedPath b R) (ap (λ q. q ++ (drop (length chosen - keep) chosen ++ below)) j.whole ∙ append_assoc j.before (m ∷ j.after) (drop (length chosen - keep) chosen ++ below)) linked)
 
-      same_rest : l.after ++ (drop (length chosen - keep) chosen ++ below) ≡ j.after ++ (drop (length chosen - keep) chosen ++ below)
-      same_rest = tail_same m _ _ (linked_unique b R (m ∷ (l.after ++ (drop (length chosen - keep) chosen ++ below))) (m ∷ (j.after ++ (drop (length chosen - keep) chosen ++ below))) d under_left under_joined refl)
+        same_rest : l.after ++ (drop (length chosen - keep) chosen ++ below) ≡ j.after ++ (drop (length chosen - keep) chosen ++ below)
+        same_rest = tail_same m _ _ (linked_unique b R (m ∷ (l.after ++ (drop (length chosen - keep) chosen ++ below))) (m ∷ (j.after ++ (drop (length chosen - keep) chosen ++ below))) d under_left under_joined refl)
 
-      same : l.after ≡ j.after
-      same = same_front l.after j.after (drop (length chosen - keep) chosen ++ below)
-          (omega (arith, ap length same_rest, length-append l.after (drop (length chosen - keep) chosen ++ below), length-append j.after (drop (length chosen - keep) chosen ++ below))) same_rest
+        same : l.after ≡ j.after
+        same = same_front l.after j.after (drop (length chosen - keep) chosen ++ below)
+            (omega (arith, ap length same_rest, length-append l.after (drop (length chosen - keep) chosen ++ below), length-append j.after (drop (length chosen - keep) chosen ++ below))) same_rest
 
-      -- the last of the names from m on
-      e : (front : List Name) × (last : Name) × (map name_of (m ∷ l.after) ≡ front ++ last ∷ [])
-      e = ends (name_of m) (map name_of l.after)
+        -- the last of the names from m on
+        e : (front : List Name) × (last : Name) × (map name_of (m ∷ l.after) ≡ front ++ last ∷ [])
+        e = ends (name_of m) (map name_of l.after)
 
-      left_ends : map name_of (take (length chosen - keep) chosen) ≡ (map name_of l.before ++ e.0) ++ e.1 ∷ []
-      left_ends = ap (map name_of) l.whole ∙ map_joined name_of l.before (m ∷ l.after) ∙ ap (λ q. map name_of l.before ++ q) e.2 ∙ sym (append_assoc (map name_of l.before) e.0 (e.1 ∷ []))
+        left_ends : map name_of (take (length chosen - keep) chosen) ≡ (map name_of l.before ++ e.0) ++ e.1 ∷ []
+        left_ends = ap (map name_of) l.whole ∙ map_joined name_of l.before (m ∷ l.after) ∙ ap (λ q. map name_of l.before ++ q) e.2 ∙ sym (append_assoc (map name_of l.before) e.0 (e.1 ∷ []))
 
-      joined_ends : names ≡ (map name_of j.before ++ e.0) ++ e.1 ∷ []
-      joined_ends =
-          sym joined_names ∙ ap (map name_of) j.whole ∙ map_joined name_of j.before (m ∷ j.after) ∙ ap (λ q. map name_of j.before ++ map name_of (m ∷ q)) (sym same)
-          ∙ ap (λ q. map name_of j.before ++ q) e.2 ∙ sym (append_assoc (map name_of j.before) e.0 (e.1 ∷ []))
+        joined_ends : names ≡ (map name_of j.before ++ e.0) ++ e.1 ∷ []
+        joined_ends =
+            sym joined_names ∙ ap (map name_of) j.whole ∙ map_joined name_of j.before (m ∷ j.after) ∙ ap (λ q. map name_of j.before ++ map name_of (m ∷ q)) (sym same)
+            ∙ ap (λ q. map name_of j.before ++ q) e.2 ∙ sym (append_assoc (map name_of j.before) e.0 (e.1 ∷ []))
 
-      which : (ds : List Undo) → drop keep undos ≡ ds → ⊥
-      which [] none =
-          let empty : (map name_of l.before ++ e.0) ++ e.1 ∷ [] ≡ [] = sym left_ends ∙ left_names ∙ ap (λ q. map undone_name (reverse q)) none in
-          omega (arith, ap length empty, length-append (map name_of l.before ++ e.0) (e.1 ∷ []))
-      which (u ∷ ds) is =
-          let pushed : (map name_of l.before ++ e.0) ++ e.1 ∷ [] ≡ map undone_name (reverse ds) ++ undone_name u ∷ [] =
-              sym left_ends ∙ left_names ∙ ap (λ q. map undone_name (reverse q)) is ∙ ap (map undone_name) (reverse-append (u ∷ []) ds) ∙ map_joined undone_name (reverse ds) (u ∷ []) in
-          let last_same : e.1 ≡ undone_name u = (same_from_push (map name_of l.before ++ e.0) (map undone_name (reverse ds)) e.1 (undone_name u) pushed).1 in
-          fork (map name_of j.before ++ e.0) e.1 u joined_ends (at_drop keep undos u ds is) (sym last_same)
+        which : (ds : List Undo) → drop keep undos ≡ ds → ⊥
+        which [] none =
+            let empty : (map name_of l.before ++ e.0) ++ e.1 ∷ [] ≡ [] = sym left_ends ∙ left_names ∙ ap (λ q. map undone_name (reverse q)) none in
+            omega (arith, ap length empty, length-append (map name_of l.before ++ e.0) (e.1 ∷ []))
+        which (u ∷ ds) is =
+            let pushed : (map name_of l.before ++ e.0) ++ e.1 ∷ [] ≡ map undone_name (reverse ds) ++ undone_name u ∷ [] =
+            sym left_ends ∙ left_names ∙ ap (λ q. map undone_name (reverse q)) is ∙ ap (map undone_name) (reverse-append (u ∷ []) ds) ∙ map_joined undone_name (reverse ds) (u ∷ []) in
+            let last_same : e.1 ≡ undone_name u = (same_from_push (map name_of l.before ++ e.0) (map undone_name (reverse ds)) e.1 (undone_name u) pushed).1 in
+            fork (map name_of j.before ++ e.0) e.1 u joined_ends (at_drop keep undos u ds is) (sym last_same)

@@ -1,5 +1,5 @@
 -- The first sound path of those that one more message made, from the better to the worse, is the best one through the root.
-use Rattle.std.proofs.Common.{◌≡◌, ℕ, ◌+◌, ◌<◌, ◌≤◌, ◌⊎◌, inl, inr, List, [], ◌∷◌, ◌++◌, length, Contains, All, Some, slice_get, true≢false, nat_cmp, Ordering, Less, Equal, is_lt, append_assoc, refl, sym, ap, ap₂, ◌∙◌, subst, arith}
+use Rattle.std.proofs.Common.{◌≡◌, ℕ, ◌+◌, ◌<◌, ◌≤◌, ◌⊎◌, inl, inr, List, [], ◌∷◌, ◌++◌, length, Contains, Some, slice_get, true≢false, nat_cmp, Less, Equal, is_lt, refl, sym, ap, ap₂, ◌∙◌, subst, arith}
 use Rattle.std.specs.Cmp.{IsTotalOrder, nat_cmp_is}
 use Rattle.std.specs.Cmp.Lexicographic.{slice_cmp, nat_list_cmp_total}
 use Rattle.std.specs.List.Sorted.{IsSorted}
@@ -9,18 +9,16 @@ use Rattle.std.proofs.lemmas.Cmp.{on_total, then_total, back_total, nat_cmp_tota
 use Rattle.std.proofs.lemmas.List.Elements.{All-contains}
 use Rattle.std.proofs.lemmas.List.Sorted.{sorted_far, ranks_by}
 use Rattle.std.proofs.lemmas.Option.{get_or_from_slice_get, slice_get_within, slice_get-get_or}
-use Rattle.pad_text.specs.declared.name.Name.{Name}
 use Rattle.pad_text.specs.Name.{NameLess}
 use Rattle.pad_message.specs.declared.message.Message.{Message}
 use Rattle.pad_model.specs.declared.base.Base.{Base}
 use Rattle.pad_branch.specs.declared.candidate.Candidate.{Candidate}
-use Rattle.pad_message.specs.Message.{name_of}
-use Rattle.pad_model.specs.Path.{last_name, IsLinkedPath, EachSound, IsPath, NamesDiffer}
+use Rattle.pad_model.specs.Path.{last_name, IsLinkedPath, EachSound, IsPath}
 use Rattle.pad_model.specs.Best.{IsBetter}
 use Rattle.pad_model.specs.Choice.{IsBestThrough, RunsThrough}
 use Rattle.pad_branch.specs.Inside.Candidates.{candidate_cmp, IsCandidate, IsOffered, NoPathIn}
 use Rattle.pad_list.proofs.CallerLemmas.{contains_cases, contains_more}
-use Rattle.pad_model.proofs.CallerLemmas.{linked_unique, path_more, better_than, better_asym, never_better_itself}
+use Rattle.pad_model.proofs.CallerLemmas.{linked_unique, path_more, better_than, better_asym}
 
 candidate_total : IsTotalOrder candidate_cmp
 candidate_total = then_total (on_total (λ c. c.height.0) (back_total nat_cmp_total)) (on_total (λ c. c.name.0) nat_list_cmp_total)
@@ -82,7 +80,8 @@ module _ (b : Base) (R : List Message) (m : Message) (below chosen : List Messag
   stays_best none = record {
     path = path_more b R (m ∷ R) (chosen ++ below) (contains_more m R) o.best.path;
     through = o.best.through;
-    none_better = λ p path through better. let t = told p path through better in none_at p path t (none t.at t.candidate t.is_at) }
+    none_better = λ p path through better. let t = told p path through better in none_at p path t (none t.at t.candidate t.is_at);
+  }
 
   module _ (sorted : IsSorted candidate_cmp xs) (i : ℕ) (c : Candidate) (at : slice_get xs i ≡ Some c) (q : List Message) (linked : IsLinkedPath b (m ∷ R) (q ++ below)) (named : last_name b (q ++ below) ≡ c.name) (sound : EachSound b (q ++ below)) where
     is : IsCandidate b (m ∷ R) below chosen c

@@ -1,7 +1,6 @@
 -- A path that grows by one message that is sound on it.
-use Rattle.std.proofs.Common.{◌≡◌, ◌≢◌, ℕ, zero, suc, get_or, ◌+◌, ◌≤◌, ◌<◌, List, [], ◌∷◌, ◌++◌, length, map, reverse, Option, option_map, Some, None, IsSome, IsNone, All, append_assoc, refl, sym, ap, ◌∙◌, subst, arith}
-use Rattle.std.specs.List.{filter_map, cons_option}
-use Rattle.std.proofs.lemmas.List.{reverse-append}
+use Rattle.std.proofs.Common.{◌≡◌, ℕ, zero, suc, get_or, ◌+◌, ◌≤◌, ◌<◌, List, [], ◌∷◌, ◌++◌, length, map, Option, option_map, Some, None, IsSome, IsNone, All, append_assoc, refl, sym, ap, ◌∙◌, subst, arith}
+use Rattle.std.specs.List.{cons_option}
 use Rattle.std.proofs.lemmas.List.Elements.{filter_map-append, All-push}
 use Rattle.std.specs.Option.{is_some}
 use Rattle.pad_text.specs.declared.name.Name.{Name}
@@ -17,7 +16,7 @@ use Rattle.pad_message.specs.declared.message.Message.{Message}
 use Rattle.pad_message.specs.Message.{name_of}
 use Rattle.pad_model.specs.declared.base.Base.{Base}
 use Rattle.pad_model.specs.Sound.{interval_of, IsSound}
-use Rattle.pad_model.specs.Path.{text, since_checkpoint, interval, IsSoundOn, EachSound}
+use Rattle.pad_model.specs.Path.{text, IsSoundOn, EachSound}
 use Rattle.pad_branch.specs.declared.held.Held.{Held}
 use Rattle.pad_branch.specs.declared.tip.Tip.{Tip}
 use Rattle.pad_branch.specs.declared.undo.Undo.{Undo}

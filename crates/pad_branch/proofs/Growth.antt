@@ -1,16 +1,15 @@
 -- What is known pathless as messages come and as the root rises; and when the root stays.
-use Rattle.std.proofs.Common.{◌≡◌, ℕ, zero, suc, ◌+◌, ◌<◌, ◌≤◌, ◌⊎◌, inl, inr, List, [], ◌∷◌, ◌++◌, length, drop, All, Contains, Bool, true, false, true≢false, nat_lt, append_assoc, refl, sym, ap, ◌∙◌, subst, arith, length-append}
+use Rattle.std.proofs.Common.{◌≡◌, ◌≤◌, ◌⊎◌, inl, inr, List, [], ◌∷◌, ◌++◌, length, drop, Contains, Bool, true, false, true≢false, nat_lt, append_assoc, refl, sym, ap, ◌∙◌, subst, arith, length-append}
 use Rattle.std.specs.Prelude.{if◌then◌else◌}
 use Rattle.std.proofs.lemmas.List.Elements.{All-head, All-tail}
 use Rattle.std.proofs.lemmas.Bool.{ltb-true}
 use Rattle.pad_text.specs.declared.name.Name.{Name}
-use Rattle.pad_model.specs.declared.base.Base.{Base}
 use Rattle.pad_message.specs.declared.message.Message.{Message}
 use Rattle.pad_message.specs.Kind.{is_checkpoint}
 use Rattle.pad_message.specs.Message.{name_of}
-use Rattle.pad_model.specs.Path.{last_name, IsLinkedPath, EachSound, NamesDiffer}
+use Rattle.pad_model.specs.Path.{last_name, IsLinkedPath, EachSound}
 use Rattle.pad_model.specs.Choice.{RunsThrough, to_checkpoint, cut, higher}
-use Rattle.pad_branch.specs.Pathless.{KnowsPathless, AreFound, IsFirstUnsound}
+use Rattle.pad_branch.specs.Pathless.{IsFirstUnsound}
 use Rattle.pad_branch.specs.Laws.{NoCheckpoint, RootStays, StaysKnown, KnownAbove, FoundStays, FoundAbove, MarksPass}
 use Rattle.pad_branch.proofs.Choosing.{Passes, linked_new}
 use Rattle.pad_list.proofs.CallerLemmas.{contains_more}

@@ -1,15 +1,15 @@
 -- What is known pathless stays so, and passes on.
-use Rattle.std.proofs.Common.{◌≡◌, ◌≢◌, ◌⊎◌, inl, inr, List, [], ◌∷◌, ◌++◌, length, Contains, Bool, true, false, true≢false, append_assoc, refl, sym, ap, ◌∙◌, subst}
+use Rattle.std.proofs.Common.{◌≡◌, ◌⊎◌, inl, inr, List, [], ◌∷◌, ◌++◌, Contains, Bool, true, false, true≢false, append_assoc, refl, sym, ap, ◌∙◌, subst}
 use Rattle.pad_text.specs.declared.name.Name.{Name}
 use Rattle.pad_message.specs.declared.message.Message.{Message}
 use Rattle.pad_model.specs.declared.base.Base.{Base}
 use Rattle.pad_message.specs.Message.{name_of}
-use Rattle.pad_model.specs.Path.{last_name, IsLinkedPath, EachSound, IsSoundOn, IsPath, NamesDiffer}
+use Rattle.pad_model.specs.Path.{last_name, IsLinkedPath, EachSound, NamesDiffer}
 use Rattle.pad_model.specs.Choice.{RunsThrough}
 use Rattle.pad_branch.specs.Pathless.{HangsOn, KnowsPathless, IsFirstUnsound, AreFound}
 use Rattle.pad_branch.specs.Inside.Passing.{PassesOn}
-use Rattle.pad_list.proofs.CallerLemmas.{contains_cases, contains_more}
-use Rattle.pad_model.proofs.CallerLemmas.{linked_unique, linked_below, linked_more, sound_below}
+use Rattle.pad_list.proofs.CallerLemmas.{contains_cases}
+use Rattle.pad_model.proofs.CallerLemmas.{linked_unique, linked_below, sound_below}
 
 -- on the path to a message that is alive each message above the root is alive
 pub alive_below : (b : Base) (R root : List Message) (pathless : Name → Bool) → KnowsPathless b R root pathless → (above : List Message) (m : Message) (below : List Message)
@@ -29,7 +29,7 @@ pub hangs_unsound : (b : Base) (R : List Message) → NamesDiffer R → (lower u
 hangs_unsound b R d lower upper first h p linked last sound =
     let same : p ≡ h.above ++ h.message ∷ h.below = linked_unique b R p (h.above ++ h.message ∷ h.below) d linked h.linked (last ∙ sym h.last) in
     let lower_path : h.message ∷ h.below ≡ first.message ∷ first.below =
-        linked_unique b R (h.message ∷ h.below) (first.message ∷ first.below) d (linked_below b R h.above (h.message ∷ h.below) h.linked) first.linked (h.named ∙ sym first.named) in
+    linked_unique b R (h.message ∷ h.below) (first.message ∷ first.below) d (linked_below b R h.above (h.message ∷ h.below) h.linked) first.linked (h.named ∙ sym first.named) in
     first.unsound (subst (EachSound b) lower_path (sound_below b h.above (h.message ∷ h.below) (subst (EachSound b) same sound))).0
 
 -- what is doomed is known pathless
@@ -59,9 +59,13 @@ doomed b R root name before after d root_linked root_sound k first passes = reco
         which (inr h) =
             let same : h.above ++ h.message ∷ h.below ≡ p = linked_unique b R (h.above ++ h.message ∷ h.below) p d h.linked linked.1 h.last in
             passes.above (name_of m) (record {
-              above = m ∷ h.above; message = h.message; below = h.below;
+              above = m ∷ h.above;
+              message = h.message;
+              below = h.below;
               linked = subst (λ q. IsLinkedPath b R (m ∷ q)) (sym same) linked;
-              named = h.named; last = refl })
+              named = h.named;
+              last = refl;
+            })
 
 -- a message that was found on the path to a message that was alive was not found before
 pub not_found : (b : Base) (R root : List Message) (pathless : Name → Bool) (found : List Name) → AreFound b R root pathless found → (m : Message) (p : List Message) → IsLinkedPath b R (m ∷ p) → RunsThrough root p → pathless (name_of m) ≡ false → ¬ (Contains found (name_of m))
@@ -72,7 +76,8 @@ pub found_more : (b : Base) (R root : List Message) (before after : Name → Boo
 found_more b R root before after found name are new first passes = record {
   once = (new, are.once);
   each = λ n c. each n (contains_cases name found n c);
-  marked = λ n m p c. marked n m p (contains_cases name found n c) }
+  marked = λ n m p c. marked n m p (contains_cases name found n c);
+}
   where
     each : (n : Name) → (name ≡ n) ⊎ Contains found n → IsFirstUnsound b R n
     each n (inl e) = subst (IsFirstUnsound b R) e first

@@ -1,11 +1,9 @@
 -- Moves, one after another.
-use Rattle.std.proofs.Common.{◌≡◌, List, [], ◌∷◌, ◌++◌, map, Option, option_map, Some, None, refl, sym, ap, ◌∙◌, append-nil}
-use Rattle.std.specs.List.{filter_map, cons_option}
+use Rattle.std.proofs.Common.{◌≡◌, List, [], ◌∷◌, ◌++◌, map, Option, option_map, Some, None, ap, ◌∙◌, append-nil}
+use Rattle.std.specs.List.{cons_option}
 use Rattle.std.proofs.lemmas.List.Elements.{filter_map-append}
 use Rattle.pad_text.specs.declared.name.Name.{Name}
-use Rattle.pad_message.specs.declared.message.Message.{Message}
 use Rattle.pad_branch.specs.declared.held.Held.{Held}
-use Rattle.pad_branch.specs.declared.moved.Move.{Move}
 use Rattle.pad_branch.specs.declared.undo.Undo.{Undo}
 use Rattle.pad_branch.specs.Undo.{undone_name}
 use Rattle.pad_branch.specs.Held.{message_at, messages_at}

@@ -1,11 +1,10 @@
 -- What the choice stands on, by candidates.
-use Rattle.std.proofs.Common.{◌≡◌, ℕ, ◌+◌, ◌<◌, ◌≤◌, ◌⊎◌, inl, inr, List, [], ◌∷◌, ◌++◌, length, map, reverse, get_or, All, Contains, Option, Some, None, IfSome, IfOk, Result, Ok, Err, refl, sym, ap, ◌∙◌, subst, arith, length-append}
+use Rattle.std.proofs.Common.{◌≡◌, ℕ, ◌≤◌, inl, inr, List, ◌∷◌, ◌++◌, length, reverse, get_or, All, Contains, Option, Some, None, IfSome, IfOk, Result, Ok, Err, sym, ap, ◌∙◌, subst, arith, length-append}
 use Rattle.std.proofs.lemmas.List.{length-reverse}
 use Rattle.std.proofs.lemmas.List.Elements.{All-contains, Contains-get_or}
 use Rattle.pad_text.specs.declared.name.Name.{Name}
 use Rattle.pad_text.specs.Name.{NameLess}
 use Rattle.pad_message.specs.declared.message.Message.{Message}
-use Rattle.pad_message.specs.Message.{name_of}
 use Rattle.pad_model.specs.declared.base.Base.{Base}
 use Rattle.pad_model.specs.Path.{last_name, IsLinkedPath}
 use Rattle.pad_model.specs.Best.{IsBetter}
@@ -17,7 +16,6 @@ use Rattle.pad_graph.specs.State as graph
 use Rattle.pad_branch.specs.declared.candidate.Candidate.{Candidate}
 use Rattle.pad_branch.specs.declared.held.Held.{Held}
 use Rattle.pad_branch.specs.declared.tip.Tip.{Tip}
-use Rattle.pad_branch.specs.Tip.{IsTip, tip_after}
 use Rattle.pad_branch.specs.Branch.{State, tip_of, height_of}
 use Rattle.pad_branch.specs.Choice.{IsEnd, IsReady}
 use Rattle.pad_branch.specs.Inside.Candidates.{candidate_of, Betters, BettersWithin, IsOneOf, IsCandidate, AreReady}
@@ -43,46 +41,46 @@ module _ (b : Base) (R : List Message) (m : Message) (below chosen : List Messag
   end_of_linking x member = All-contains (IsEnd b (m ∷ R) below) linkings x ready.each member
 
   module _ (cs : List Candidate)
-    (each : (c : Candidate) → Contains cs c → IsOneOf linkings (tip_of branch).name (height_of branch) names.known c)
-    (every : (x : Linking) → Contains linkings x → BettersWithin x (tip_of branch).name (height_of branch) names.known → Contains cs (candidate_of x))
+      (each : (c : Candidate) → Contains cs c → IsOneOf linkings (tip_of branch).name (height_of branch) names.known c)
+      (every : (x : Linking) → Contains linkings x → BettersWithin x (tip_of branch).name (height_of branch) names.known → Contains cs (candidate_of x))
     where
-    one : (c : Candidate) → IsOneOf linkings (tip_of branch).name (height_of branch) names.known c → IsCandidate b (m ∷ R) below chosen c
-    one c o =
-        let e = end_of_linking o.linking o.among in
-        record {
-          last = e.last;
-          rest = e.rest;
-          linked = e.linked;
-          high = ap (λ (x : Candidate). x.height.0) o.is ∙ e.high;
-          named = ap (λ (x : Candidate). x.name) o.is ∙ e.named;
-          better = betters_path o.linking (e.last ∷ e.rest ++ below) e.high e.named o.betters.1;
-        }
+      one : (c : Candidate) → IsOneOf linkings (tip_of branch).name (height_of branch) names.known c → IsCandidate b (m ∷ R) below chosen c
+      one c o =
+          let e = end_of_linking o.linking o.among in
+          record {
+            last = e.last;
+            rest = e.rest;
+            linked = e.linked;
+            high = ap (λ (x : Candidate). x.height.0) o.is ∙ e.high;
+            named = ap (λ (x : Candidate). x.name) o.is ∙ e.named;
+            better = betters_path o.linking (e.last ∷ e.rest ++ below) e.high e.named o.betters.1;
+          }
 
-    all_of : (above under : List Message) → IsLinkedPath b (m ∷ R) (above ++ m ∷ under) → RunsThrough below (above ++ m ∷ under) → IsBetter b (above ++ m ∷ under) (chosen ++ below)
-        → (c : Candidate) × Contains cs c × (c.name ≡ last_name b (above ++ m ∷ under))
-    all_of above under linked through better =
-        let (x, member, named) = mapped_from (λ (y : Linking). y.name) linkings (last_name b (above ++ m ∷ under)) (ready.every above under linked through) in
-        let e = end_of_linking x member in
-        let same : e.last ∷ e.rest ++ below ≡ above ++ m ∷ under = linked_unique b (m ∷ R) (e.last ∷ e.rest ++ below) (above ++ m ∷ under) ready.trunk.differ e.linked linked (sym e.named ∙ named) in
-        let high : x.height ≡ length (above ++ m ∷ under) = e.high ∙ ap length same in
-        let short = ready.short (above ++ m ∷ under) linked in
-        (candidate_of x, every x member (omega (arith, high, short), path_betters x (above ++ m ∷ under) high named better), named)
+      all_of : (above under : List Message) → IsLinkedPath b (m ∷ R) (above ++ m ∷ under) → RunsThrough below (above ++ m ∷ under) → IsBetter b (above ++ m ∷ under) (chosen ++ below)
+          → (c : Candidate) × Contains cs c × (c.name ≡ last_name b (above ++ m ∷ under))
+      all_of above under linked through better =
+          let (x, member, named) = mapped_from (λ (y : Linking). y.name) linkings (last_name b (above ++ m ∷ under)) (ready.every above under linked through) in
+          let e = end_of_linking x member in
+          let same : e.last ∷ e.rest ++ below ≡ above ++ m ∷ under = linked_unique b (m ∷ R) (e.last ∷ e.rest ++ below) (above ++ m ∷ under) ready.trunk.differ e.linked linked (sym e.named ∙ named) in
+          let high : x.height ≡ length (above ++ m ∷ under) = e.high ∙ ap length same in
+          let short = ready.short (above ++ m ∷ under) linked in
+          (candidate_of x, every x member (omega (arith, high, short), path_betters x (above ++ m ∷ under) high named better), named)
 
-    pub are_ready : AreReady b R m below chosen branch table names.children names.known found cs
-    are_ready = record {
-      offered = record {
-        differ = ready.trunk.differ;
-        best = ready.best;
-        each = λ k d inside. one (get_or cs k d) (each (get_or cs k d) (Contains-get_or cs k d inside));
-        every = all_of;
-      };
-      trunk = ready.trunk;
-      holds = ready.holds;
-      children_are = ready.children;
-      short = ready.short;
-      knows = ready.knows;
-      are = ready.are;
-    }
+      pub are_ready : AreReady b R m below chosen branch table names.children names.known found cs
+      are_ready = record {
+        offered = record {
+          differ = ready.trunk.differ;
+          best = ready.best;
+          each = λ k d inside. one (get_or cs k d) (each (get_or cs k d) (Contains-get_or cs k d inside));
+          every = all_of;
+        };
+        trunk = ready.trunk;
+        holds = ready.holds;
+        children_are = ready.children;
+        short = ready.short;
+        knows = ready.knows;
+        are = ready.are;
+      }
 
 -- heights of candidates are those of linkings
 pub heights_of : (linkings : List Linking) (name : Name) (height longest most : ℕ) (cs : List Candidate) → ((c : Candidate) → Contains cs c → IsOneOf linkings name height longest c) → All (λ (x : Linking). x.height ≤ most) linkings → All (λ (c : Candidate). c.height.0 ≤ most) cs

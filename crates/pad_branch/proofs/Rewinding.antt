@@ -1,5 +1,5 @@
 -- What was applied can be taken back.
-use Rattle.std.proofs.Common.{◌≡◌, ℕ, ◌+◌, ◌-◌, ◌≤◌, ◌<◌, List, [], ◌∷◌, ◌++◌, length, take, drop, reverse, map, Option, Some, IfSome, true, refl, sym, ap, ◌∙◌, subst, arith, length-append, append-nil}
+use Rattle.std.proofs.Common.{◌≡◌, ℕ, ◌+◌, ◌-◌, ◌≤◌, List, [], ◌∷◌, ◌++◌, length, take, drop, reverse, Option, IfSome, refl, sym, ap, ◌∙◌, subst, arith, append-nil}
 use Rattle.std.specs.List.{flat_map}
 use Rattle.std.proofs.lemmas.List.{length-reverse}
 use Rattle.pad_text.specs.declared.name.Name.{Name}
@@ -80,10 +80,11 @@ rewinds_on table kept root tip low under units tip_is r [] after e = subst (Rewi
 rewinds_on table kept root tip low under units tip_is r (u ∷ us) after (held, before, found, g, rest) =
     let below = rewinds_on table kept root tip low under units tip_is r us before rest in
     let stands : IsTipOf (tip_after tip us) (low + length (us ++ under)) before = subst (λ t. IsTipOf t (low + length (us ++ under)) before) (sym (tip_joined root tip us under tip_is)) (tip_stands root low (us ++ under) before below) in
-    let kept_as : IsHeldAs u.after.name held = subst (λ o. IfSome o (IsHeldAs u.after.name)) found (kept u.after.name) in
-    (stands_next held.message before (tip_after tip us) u after g (low + length (us ++ under)) kept_as.interval stands,
-    back held.message before (tip_after tip us) u after g,
-    subst (Rewinds root low (us ++ under)) (sym g.undoes) below)
+    let kept_as : IsHeldAs u.after.name held = subst (λ o. IfSome o (IsHeldAs u.after.name)) found (kept u.after.name) in (
+      stands_next held.message before (tip_after tip us) u after g (low + length (us ++ under)) kept_as.interval stands,
+      back held.message before (tip_after tip us) u after g,
+      subst (Rewinds root low (us ++ under)) (sym g.undoes) below,
+    )
 
 -- at the end of a branch that rewinds
 pub end_stands : (root : Tip) (low : ℕ) (undos : List Undo) (units : List ℕ) → Rewinds root low (reverse undos) units → IsTipOf (tip_after root (reverse undos)) (low + length undos) units

@@ -1,14 +1,14 @@
 -- A branch as a message comes, and as its root rises.
-use Rattle.std.proofs.Common.{◌≡◌, ℕ, zero, suc, ◌+◌, ◌-◌, ◌≤◌, List, [], ◌∷◌, ◌++◌, length, take, drop, reverse, append_assoc, refl, sym, ap, ◌∙◌, subst, arith, length-append, length-take}
+use Rattle.std.proofs.Common.{◌≡◌, ℕ, suc, ◌+◌, ◌-◌, ◌≤◌, List, [], ◌∷◌, ◌++◌, length, take, drop, reverse, append_assoc, refl, sym, ap, ◌∙◌, subst, arith, length-append, length-take}
 use Rattle.std.proofs.lemmas.List.{length-reverse}
 use Rattle.pad_message.specs.declared.message.Message.{Message}
 use Rattle.pad_model.specs.declared.base.Base.{Base}
-use Rattle.pad_model.specs.Path.{text, IsLinkedPath, EachSound}
+use Rattle.pad_model.specs.Path.{text, IsLinkedPath}
 use Rattle.pad_list.proofs.CallerLemmas.{contains_more}
 use Rattle.pad_model.proofs.CallerLemmas.{linked_more}
 use Rattle.pad_branch.specs.declared.tip.Tip.{Tip}
 use Rattle.pad_branch.specs.declared.undo.Undo.{Undo}
-use Rattle.pad_branch.specs.Tip.{IsTip, IsTipOf, tip_after}
+use Rattle.pad_branch.specs.Tip.{IsTipOf, tip_after}
 use Rattle.pad_branch.specs.Undo.{Rewinds, TakesBack, AreUndos, undone}
 use Rattle.pad_branch.specs.Branch.{State, IsTrunk, risen}
 use Rattle.pad_branch.specs.Laws.{TrunkStays, RootText}

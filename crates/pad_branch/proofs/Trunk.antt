@@ -1,10 +1,10 @@
 -- The best branch with its undos: what stays of it below a fork, and what goes on from there.
-use Rattle.std.proofs.Common.{◌≡◌, ℕ, zero, suc, ◌+◌, ◌-◌, ◌≤◌, List, [], ◌∷◌, ◌++◌, length, take, drop, map, reverse, take-append-drop, append_assoc, refl, sym, ap, ap₂, ◌∙◌, subst, arith, length-append, length-drop}
+use Rattle.std.proofs.Common.{◌≡◌, ℕ, zero, suc, ◌-◌, ◌≤◌, List, [], ◌∷◌, ◌++◌, length, take, drop, map, reverse, take-append-drop, append_assoc, refl, sym, ap, ap₂, ◌∙◌, subst, length-drop}
 use Rattle.std.proofs.lemmas.List.{reverse-append, length-reverse}
 use Rattle.pad_patch.specs.Piece.{text_after}
 use Rattle.pad_message.specs.declared.message.Message.{Message}
 use Rattle.pad_model.specs.declared.base.Base.{Base}
-use Rattle.pad_model.specs.Path.{text, EachSound}
+use Rattle.pad_model.specs.Path.{text}
 use Rattle.pad_branch.specs.declared.tip.Tip.{Tip}
 use Rattle.pad_branch.specs.declared.undo.Undo.{Undo}
 use Rattle.pad_branch.specs.Tip.{IsTip, tip_after}

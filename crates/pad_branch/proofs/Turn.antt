@@ -1,5 +1,5 @@
 -- One turn of the choice: a candidate that is pathless, or whose test fails.
-use Rattle.std.proofs.Common.{◌≡◌, List, [], ◌∷◌, ◌++◌, Contains, Bool, true, false, append_assoc, refl, sym, ap, ◌∙◌, subst}
+use Rattle.std.proofs.Common.{◌≡◌, List, ◌∷◌, ◌++◌, Contains, Bool, true, false, append_assoc, refl, sym, ap, ◌∙◌, subst}
 use Rattle.pad_text.specs.declared.name.Name.{Name}
 use Rattle.pad_model.specs.declared.base.Base.{Base}
 use Rattle.pad_message.specs.declared.message.Message.{Message}
@@ -7,7 +7,7 @@ use Rattle.pad_branch.specs.declared.candidate.Candidate.{Candidate}
 use Rattle.pad_message.specs.Message.{name_of}
 use Rattle.pad_model.specs.Path.{last_name, IsLinkedPath, EachSound, NamesDiffer}
 use Rattle.pad_model.specs.Choice.{RunsThrough}
-use Rattle.pad_branch.specs.Pathless.{HangsOn, KnowsPathless, IsFirstUnsound, AreFound}
+use Rattle.pad_branch.specs.Pathless.{HangsOn, KnowsPathless, AreFound}
 use Rattle.pad_branch.specs.Inside.Passing.{PassesOn, IsLinkedThrough}
 use Rattle.pad_branch.specs.Branch.{IsStopped}
 use Rattle.pad_branch.specs.Inside.Candidates.{IsCandidate, NoPathIn}

@@ -1,6 +1,5 @@
 -- The turns of the choice, over the tables.
-use Rattle.std.proofs.Common.{Option, ◌≡◌, ℕ, suc, ◌+◌, ◌-◌, ◌*◌, ◌<◌, ◌≤◌, List, [], ◌∷◌, ◌++◌, length, reverse, Some, None, slice_get, Contains, All, Bool, true, false, ◌||◌, add-one, refl, sym, ap, ◌∙◌, subst, arith, length-append}
-use Rattle.std.specs.BTreeMap.{BTreeMap, get}
+use Rattle.std.proofs.Common.{Option, ◌≡◌, ℕ, ◌+◌, ◌-◌, ◌*◌, ◌<◌, ◌≤◌, List, [], ◌∷◌, ◌++◌, length, reverse, Some, slice_get, Bool, true, false, ◌||◌, add-one, refl, sym, ap, ◌∙◌, subst, arith, length-append}
 use Rattle.std.specs.BTreeSet.{BTreeSet, contains}
 use Rattle.std.specs.List.Sorted.{IsSorted}
 use Rattle.std.proofs.Math.Nat.{mul-suc}
@@ -12,17 +11,15 @@ use Rattle.pad_model.specs.declared.base.Base.{Base}
 use Rattle.pad_message.specs.declared.message.Message.{Message}
 use Rattle.pad_branch.specs.declared.candidate.Candidate.{Candidate}
 use Rattle.pad_branch.specs.declared.held.Held.{Held}
-use Rattle.pad_branch.specs.declared.tip.Tip.{Tip}
-use Rattle.pad_branch.specs.declared.undo.Undo.{Undo}
 use Rattle.pad_graph.specs.State.{name_cmp}
 use Rattle.pad_model.specs.Path.{last_name, IsLinkedPath, EachSound}
 use Rattle.pad_model.specs.Choice.{IsBestThrough}
 use Rattle.pad_branch.specs.Pathless.{KnowsPathless, AreFound, pathless_in}
 use Rattle.pad_branch.specs.Inside.Passing.{PassesOn, IsLinkedThrough}
-use Rattle.pad_branch.specs.Branch.{State, IsStopped, IsWon}
+use Rattle.pad_branch.specs.Branch.{State, IsStopped}
 use Rattle.pad_branch.specs.Inside.Candidates.{candidate_cmp, IsCandidate, AreReady, NoPathIn}
 use Rattle.pad_branch.specs.Held.{mark_of, marks}
-use Rattle.pad_branch.proofs.Turn.{skipped, stopped, stands, is_new, knows_more, finds_more}
+use Rattle.pad_branch.proofs.Turn.{skipped, stopped, stands, knows_more, finds_more}
 use Rattle.pad_branch.proofs.Choosing.{wins, stays_best, none_more}
 use Rattle.pad_model.proofs.CallerLemmas.{linked_below}
 
@@ -75,9 +72,10 @@ module _ (b : Base) (R : List Message) (m : Message) (below chosen : List Messag
           → KnowsPathless b (m ∷ R) below after × AreFound b (m ∷ R) below after (reverse new ++ found)
       more before after earlier new k are alive passes e =
           let root_linked : IsLinkedPath b (m ∷ R) below = linked_below b (m ∷ R) chosen below ready.trunk.linked in
-          let turned : reverse new ++ found ≡ first ∷ (reverse earlier ++ found) = ap (λ ns. ns ++ found) (ap reverse e ∙ reverse-append earlier (first ∷ [])) in
-          (knows_more b (m ∷ R) below chosen ready.offered.differ c item first s before after root_linked ready.trunk.root_sound k passes,
-          subst (AreFound b (m ∷ R) below after) (sym turned) (finds_more b (m ∷ R) below chosen ready.offered.differ c item first s before after (reverse earlier ++ found) k are (sym alive) passes))
+          let turned : reverse new ++ found ≡ first ∷ (reverse earlier ++ found) = ap (λ ns. ns ++ found) (ap reverse e ∙ reverse-append earlier (first ∷ [])) in (
+            knows_more b (m ∷ R) below chosen ready.offered.differ c item first s before after root_linked ready.trunk.root_sound k passes,
+            subst (AreFound b (m ∷ R) below after) (sym turned) (finds_more b (m ∷ R) below chosen ready.offered.differ c item first s before after (reverse earlier ++ found) k are (sym alive) passes),
+          )
 
     pub best : IsSorted candidate_cmp xs → EachSound b (item.last ∷ item.rest ++ below) → ((k : ℕ) (e : Candidate) → k < i → slice_get xs k ≡ Some e → NoPathIn b (m ∷ R) e) → IsBestThrough b (m ∷ R) below (item.last ∷ item.rest ++ below)
     best sorted sound none = wins b R m below chosen xs ready.offered sorted i c at (item.last ∷ item.rest) item.linked last sound none

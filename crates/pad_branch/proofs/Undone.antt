@@ -1,5 +1,5 @@
 -- Undos in turn, the newest first.
-use Rattle.std.proofs.Common.{◌≡◌, ℕ, suc, ◌+◌, ◌-◌, ◌<◌, ◌≤◌, List, [], ◌∷◌, ◌++◌, length, get_or, take, drop, drop-cons, reverse, refl, sym, ap, ◌∙◌, subst, arith}
+use Rattle.std.proofs.Common.{◌≡◌, ℕ, suc, ◌-◌, ◌<◌, ◌≤◌, List, [], ◌∷◌, ◌++◌, length, get_or, take, drop, drop-cons, reverse, refl, sym, ap, ◌∙◌, subst, arith}
 use Rattle.std.proofs.Math.Seq.{take-suc}
 use Rattle.std.proofs.lemmas.List.{get_or-reverse, length-reverse}
 use Rattle.pad_patch.specs.Piece.{text_after}
@@ -7,7 +7,6 @@ use Rattle.pad_patch.specs.Misfit.{CanApply}
 use Rattle.pad_branch.specs.declared.tip.Tip.{Tip}
 use Rattle.pad_branch.specs.declared.undo.Undo.{Undo}
 use Rattle.pad_branch.specs.Undo.{Rewinds, undone}
-use Rattle.pad_branch.specs.Tip.{IsTipOf}
 
 pub undone-push : (us : List Undo) (u : Undo) (t : List ℕ) → undone (us ++ u ∷ []) t ≡ text_after u.inverse (undone us t)
 undone-push [] u t = refl

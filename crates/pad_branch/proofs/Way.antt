@@ -1,6 +1,5 @@
 -- The way from a message down to the best chain.
-use Rattle.std.proofs.Common.{◌≡◌, ◌≢◌, ℕ, zero, suc, ◌+◌, ◌-◌, ◌<◌, ◌≤◌, List, [], ◌∷◌, ◌++◌, length, map, get_or, take, drop, drop-cons, reverse, Option, Some, None, All, append_assoc, refl, sym, ap, ◌∙◌, subst, arith, length-append, length-drop}
-use Rattle.std.specs.BTreeMap.{BTreeMap, get}
+use Rattle.std.proofs.Common.{◌≡◌, ℕ, zero, suc, ◌+◌, ◌-◌, ◌<◌, ◌≤◌, List, [], ◌∷◌, ◌++◌, length, map, get_or, take, drop, reverse, Option, Some, None, append_assoc, refl, sym, ap, ◌∙◌, subst, arith, length-drop}
 use Rattle.std.proofs.lemmas.List.{get_or-reverse, length-reverse, length-map}
 use Rattle.pad_text.specs.declared.name.Name.{Name}
 use Rattle.pad_model.specs.declared.base.Base.{Base}
@@ -8,7 +7,6 @@ use Rattle.pad_message.specs.declared.message.Message.{Message}
 use Rattle.pad_branch.specs.declared.held.Held.{Held}
 use Rattle.pad_branch.specs.declared.undo.Undo.{Undo}
 use Rattle.pad_message.specs.Message.{name_of}
-use Rattle.pad_graph.specs.State.{name_cmp}
 use Rattle.pad_model.specs.Path.{last_name, IsLinkedPath, NamesDiffer}
 use Rattle.pad_branch.specs.Undo.{undone_name}
 use Rattle.pad_branch.specs.Held.{messages_at, HoldsKept}

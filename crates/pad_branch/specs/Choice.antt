@@ -38,4 +38,4 @@ pub record IsReady (base : Base) (received : List Message) (message : Message) (
   pub are : AreFound base (message ∷ received) below (marks table) found
   pub each : All (IsEnd base (message ∷ received) below) linkings
   pub every : (above under : List Message) → IsLinkedPath base (message ∷ received) (above ++ message ∷ under) → RunsThrough below (above ++ message ∷ under)
-    → Contains (map (λ (linking : Linking). linking.name) linkings) (last_name base (above ++ message ∷ under))
+      → Contains (map (λ (linking : Linking). linking.name) linkings) (last_name base (above ++ message ∷ under))

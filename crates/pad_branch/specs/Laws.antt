@@ -1,5 +1,5 @@
 -- Laws of what a chain knows while it keeps the text of its best branch alone.
-use Rattle.std.specs.Prelude.{◌≡◌, ◌≤◌, ◌⊎◌, List, [], ◌∷◌, ◌++◌, length, reverse, All, Bool, true, false}
+use Rattle.std.specs.Prelude.{◌≡◌, ◌≤◌, ◌⊎◌, List, ◌∷◌, ◌++◌, length, reverse, All, Bool, true, false}
 use Rattle.pad_text.specs.declared.name.Name.{Name}
 use Rattle.pad_message.specs.declared.message.Message.{Message}
 use Rattle.pad_message.specs.Kind.{is_checkpoint}

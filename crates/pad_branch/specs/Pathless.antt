@@ -1,5 +1,5 @@
 -- What is known of linked paths that were not all tested. A name is pathless if no path ends in the message with it.
-use Rattle.std.specs.Prelude.{◌≡◌, ◌||◌, ◌⊎◌, List, ◌∷◌, ◌++◌, Contains, Bool, true, false, Option}
+use Rattle.std.specs.Prelude.{◌≡◌, ◌||◌, List, ◌∷◌, ◌++◌, Contains, Bool, true, false, Option}
 use Rattle.std.specs.BTreeSet.{BTreeSet, contains}
 use Rattle.pad_text.specs.declared.name.Name.{Name}
 use Rattle.pad_message.specs.declared.message.Message.{Message}

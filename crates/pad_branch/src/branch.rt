@@ -160,7 +160,17 @@ impl<S: UnitStore> Branch<S> {
         ensures cost { IfOk result (λ tested. steps.new ≤ steps.old + length self.now.branch.undos + 2 * (height - self.now.branch.low)) }
     {
         let above = (height - self.low) as usize;
-        test(alloc, messages, &self.text, self.undos.as_slice(), &self.root, self.low, name, above, steps)
+        test(
+            alloc,
+            messages,
+            &self.text,
+            self.undos.as_slice(),
+            &self.root,
+            self.low,
+            name,
+            above,
+            steps,
+        )
     }
 
     /// The best path through the root after a message came, with which these became linked. A path is tested only if it betters
@@ -193,7 +203,18 @@ impl<S: UnitStore> Branch<S> {
         let height = self.height();
         let longest = graph.known();
         let candidates = better(alloc, linkings, &tip.name, height, longest)?;
-        choose_best(alloc, messages, graph, &self.text, self.undos.as_slice(), &self.root, self.low, longest, candidates.as_slice(), steps)
+        choose_best(
+            alloc,
+            messages,
+            graph,
+            &self.text,
+            self.undos.as_slice(),
+            &self.root,
+            self.low,
+            longest,
+            candidates.as_slice(),
+            steps,
+        )
     }
 
     /// Makes sure that there is memory for so many undos more. The branch stays what it is.

@@ -68,7 +68,17 @@ pub(crate) fn choose_best<S: UnitStore, L: Ledger>(
             continue;
         }
         let above = (candidate.height.0 - low) as usize;
-        match test(alloc, messages, text, undos, root, low, &candidate.name, above, steps)? {
+        match test(
+            alloc,
+            messages,
+            text,
+            undos,
+            root,
+            low,
+            &candidate.name,
+            above,
+            steps,
+        )? {
             Ok(won) => {
                 return Ok(Plan {
                     won: Some(won),

@@ -1,5 +1,5 @@
 -- Linked paths that better the best branch.
-use Rattle.std.specs.Prelude.{◌≡◌, ◌≤◌, ◌<◌, ◌⊎◌, ℕ, List, [], ◌∷◌, ◌++◌, length, map, All, Contains, Option}
+use Rattle.std.specs.Prelude.{◌≡◌, ◌≤◌, ◌<◌, ◌⊎◌, ℕ, List, ◌∷◌, ◌++◌, length, map, All, Contains, Option}
 use Rattle.std.specs.declared.cmp.Ordering.{Ordering}
 use Rattle.std.specs.Ordering.{nat_cmp, ordering_then}
 use Rattle.std.specs.Cmp.Lexicographic.{slice_cmp}
@@ -59,7 +59,7 @@ pub record IsOffered (base : Base) (received : List Message) (message : Message)
   pub best : IsBestThrough base received below (chosen ++ below)
   pub each : All (IsCandidate base (message ∷ received) below chosen) candidates
   pub every : (above under : List Message) → IsLinkedPath base (message ∷ received) (above ++ message ∷ under) → RunsThrough below (above ++ message ∷ under) → IsBetter base (above ++ message ∷ under) (chosen ++ below)
-    → (candidate : Candidate) × Contains candidates candidate × (candidate.name ≡ last_name base (above ++ message ∷ under))
+      → (candidate : Candidate) × Contains candidates candidate × (candidate.name ≡ last_name base (above ++ message ∷ under))
 
 -- the same with the tables
 pub record AreReady (base : Base) (received : List Message) (message : Message) (below chosen : List Message) (branch : State) (table : Name → Option Held) (children : Name → List Name) (longest : ℕ) (found : List Name) (candidates : List Candidate) : Type 0 where

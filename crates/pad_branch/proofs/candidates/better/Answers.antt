@@ -1,6 +1,5 @@
-use Rattle.std.proofs.Common.{◌≡◌, ◌≤◌, ◌<◌, ◌⊎◌, inl, inr, get_or, Contains, refl, arith, subst, sym, ap, ◌∙◌}
 use Rattle.std.proofs.lemmas.List.Sorted.{Contains-permutation, IsPermutation-sym}
-use Rattle.pad_branch.specs.Inside.Candidates.{candidate_of, IsOneOf}
+use Rattle.pad_branch.specs.Inside.Candidates.{candidate_of}
 use Rattle.pad_branch.proofs.Better.{few_of}
 use Rattle.pad_branch.proofs.candidates.better.Goals as goal
 

@@ -1,6 +1,6 @@
-use Rattle.std.proofs.Common.{◌≡◌, [], arith, subst, sym, ap, ◌∙◌}
+use Rattle.std.proofs.Common.{[]}
 use Rattle.std.proofs.lemmas.Option.{slice_get-get_or}
-use Rattle.pad_branch.proofs.Better.{skips, takes, each_new, has_every}
+use Rattle.pad_branch.proofs.Better.{takes, each_new, has_every}
 use Rattle.pad_branch.proofs.candidates.those_better.Goals as goal
 
 pub loop-linking-preserved : goal.loop-linking-preserved

@@ -1,4 +1,4 @@
-use Rattle.std.proofs.Common.{◌≡◌, ◌+◌, ◌*◌, ◌≤◌, ◌<◌, ◌^◌, List, ◌++◌, length, map, reverse, vec_len, All, IsSome}
+use Rattle.std.proofs.Common.{◌≡◌, ◌+◌, ◌*◌, ◌<◌, ◌^◌, ◌++◌, length, map, reverse, vec_len, All, IsSome}
 use Rattle.std.specs.BTreeMap.{get}
 use Rattle.pad_graph.specs.State.{name_cmp}
 use Rattle.pad_branch.specs.Tip.{tip_after}

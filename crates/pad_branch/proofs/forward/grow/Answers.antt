@@ -1,4 +1,4 @@
-use Rattle.std.proofs.Common.{◌≡◌, ◌≤◌, ◌<◌, length, sym, ◌∙◌, subst, arith}
+use Rattle.std.proofs.Common.{◌≤◌, length, sym, ◌∙◌, subst, arith}
 use Rattle.pad_patch.specs.Misfit.{longest_text}
 use Rattle.pad_branch.proofs.Growing.{short_after}
 use Rattle.pad_branch.proofs.forward.grow.Goals as goal

@@ -1,4 +1,4 @@
-use Rattle.std.proofs.Common.{◌≡◌, suc, ◌+◌, ◌∷◌, ◌++◌, [], take, get_or, add-one, sym, ap, ◌∙◌, subst}
+use Rattle.std.proofs.Common.{[], take, get_or, add-one, sym, ap, ◌∙◌, subst}
 use Rattle.std.specs.BTreeMap.{get}
 use Rattle.std.proofs.Math.Seq.{take-suc}
 use Rattle.pad_text.specs.declared.name.Name.{Name}

@@ -1,4 +1,4 @@
-use Rattle.std.proofs.Common.{◌≡◌, ◌++◌, ◌∷◌, [], List, length, arith, sym, ap, ◌∙◌, subst}
+use Rattle.std.proofs.Common.{◌≡◌, ◌++◌, ◌∷◌, [], List, length, arith, ap, ◌∙◌, subst}
 use Rattle.std.specs.BTreeMap.{get}
 use Rattle.pad_text.specs.declared.name.Name.{Name}
 use Rattle.pad_graph.specs.State.{name_cmp, state_of}

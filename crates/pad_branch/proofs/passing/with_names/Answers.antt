@@ -1,8 +1,7 @@
-use Rattle.std.proofs.Common.{◌≡◌, suc, ◌+◌, ◌∷◌, ◌++◌, [], take, get_or, add-one, sym, ap, ◌∙◌, subst}
+use Rattle.std.proofs.Common.{[], take, add-one, sym, ap, ◌∙◌, subst}
 use Rattle.std.proofs.Math.Seq.{take-suc}
 use Rattle.std.specs.BTreeMap.{get}
-use Rattle.pad_text.specs.declared.name.Name.{Name}
-use Rattle.pad_graph.specs.State.{name_cmp, state_of}
+use Rattle.pad_graph.specs.State.{name_cmp}
 use Rattle.pad_branch.specs.Inside.Passing.{MarksNames}
 use Rattle.pad_branch.proofs.Marking.{marked_already, newly_marked}
 use Rattle.pad_branch.proofs.passing.with_names.Goals as goal

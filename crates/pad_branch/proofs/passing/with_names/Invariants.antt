@@ -1,6 +1,6 @@
 use Rattle.std.proofs.Common.{take}
 use Rattle.std.specs.BTreeMap.{get}
-use Rattle.pad_graph.specs.State.{name_cmp, state_of}
+use Rattle.pad_graph.specs.State.{name_cmp}
 use Rattle.pad_branch.specs.Inside.Passing.{MarksNames}
 use Rattle.pad_branch.proofs.passing.with_names.Given as goal
 

@@ -1,5 +1,5 @@
-use Rattle.std.proofs.Common.{◌≡◌, ◌≤◌, ◌<◌, ◌-◌, length, take, drop, reverse, refl, sym, ap, ◌∙◌, subst, arith}
-use Rattle.pad_branch.specs.Undo.{Rewinds, undone}
+use Rattle.std.proofs.Common.{◌<◌, ◌-◌, length, drop, reverse, sym, ◌∙◌, subst, arith}
+use Rattle.pad_branch.specs.Undo.{Rewinds}
 use Rattle.pad_branch.proofs.Undone.{rewinds_here, units_here}
 use Rattle.pad_branch.proofs.rewind.rewound.Goals as goal
 

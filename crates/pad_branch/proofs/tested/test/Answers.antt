@@ -1,4 +1,4 @@
-use Rattle.std.proofs.Common.{◌≡◌, ◌≤◌, ◌+◌, ◌∷◌, ◌++◌, length, reverse, refl, sym, ap, ◌∙◌, subst, arith}
+use Rattle.std.proofs.Common.{reverse, arith}
 use Rattle.std.specs.BTreeMap.{get}
 use Rattle.pad_graph.specs.State.{name_cmp}
 use Rattle.pad_branch.proofs.Forks.{fork_stands, can_switch, at_fork, won, stopped, leads_from}

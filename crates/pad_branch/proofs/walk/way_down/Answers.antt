@@ -1,17 +1,14 @@
-use Rattle.std.proofs.Common.{◌≡◌, ℕ, suc, get_or, ◌+◌, ◌-◌, ◌++◌, ◌∷◌, [], length, slice_get, Some, None, refl, sym, ap, ◌∙◌, subst, arith, length-append}
+use Rattle.std.proofs.Common.{◌≡◌, suc, get_or, ◌-◌, ◌∷◌, [], length, slice_get, Some, sym, ap, ◌∙◌, subst, arith, length-append}
 use Rattle.std.specs.Option.{option_copied}
 use Rattle.std.specs.BTreeMap.{get}
-use Rattle.std.proofs.lemmas.Grind.{common_steps}
-use Rattle.pad_text.specs.declared.name.Name.{Name}
 use Rattle.pad_branch.specs.declared.undo.Undo.{Undo}
 use Rattle.pad_graph.specs.State.{name_cmp}
-use Rattle.pad_branch.specs.Held.{messages_at}
 use Rattle.pad_branch.proofs.Growing.{none_if, all_push}
 use Rattle.pad_branch.proofs.Places.{name_yes, name_no}
 use Rattle.std.proofs.lemmas.List.{same_from_push}
 use Rattle.std.proofs.lemmas.Option.{get_or_from_slice_get, slice_get_within}
 use Rattle.pad_branch.proofs.walk.way_down.Goals.{else-place-undos-via-then-place-undos+else-eq, else-place-undos-via-else-place-undos}
-use Rattle.pad_branch.proofs.Way.{Rest, rest_start, rest_step, rest_meets, rest_end, not_missing}
+use Rattle.pad_branch.proofs.Way.{Rest, rest_step, rest_meets, rest_end, not_missing}
 use Rattle.pad_branch.proofs.walk.way_down.Goals as goal
 
 pub returns-then-eq-clause-path : goal.returns-then-eq-clause-path

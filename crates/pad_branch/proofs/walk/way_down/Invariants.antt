@@ -1,4 +1,4 @@
-use Rattle.std.proofs.Common.{◌≡◌, ◌≢◌, ◌+◌, List, [], ◌∷◌, ◌++◌, length, reverse, Some, slice_get, All, IsSome}
+use Rattle.std.proofs.Common.{◌≡◌, ◌≢◌, ◌+◌, List, [], ◌∷◌, ◌++◌, length, Some, slice_get, All, IsSome}
 use Rattle.std.specs.BTreeMap.{get}
 use Rattle.pad_model.specs.declared.base.Base.{Base}
 use Rattle.pad_message.specs.declared.message.Message.{Message}
@@ -17,5 +17,5 @@ invariant-loop-place l = record {
   apart : (front : List Name) (last : Name) (undo : Undo) → l.names.items ≡ front ++ last ∷ [] → slice_get l.undos l.place ≡ Some undo → undone_name undo ≢ last;
   long : length l.names.items + l.place ≡ l.above;
   left : (base : Base) (received root : List Message) → HoldsKept base received root (get name_cmp l.messages) → (path : List Message) → IsLinkedPath base received (path ++ root) → length path ≡ l.above → last_name base (path ++ root) ≡ l.name
-    → Rest base root path (get name_cmp l.messages) l.names.items l.at l.place;
+      → Rest base root path (get name_cmp l.messages) l.names.items l.at l.place;
 }

@@ -1,7 +1,6 @@
-use Rattle.std.proofs.Common.{◌≡◌, ◌+◌, length, take, reverse, sym, ap, ◌∙◌, subst, arith}
-use Rattle.std.proofs.lemmas.List.{length-reverse}
+use Rattle.std.proofs.Common.{◌≡◌, ◌+◌, length, take, reverse, sym, ap, ◌∙◌, subst}
 use Rattle.pad_branch.specs.Tip.{IsTipOf, tip_after}
-use Rattle.pad_branch.specs.Branch.{State, tip_of, height_of, state}
+use Rattle.pad_branch.specs.Branch.{height_of}
 use Rattle.pad_branch.proofs.Rewinding.{end_stands}
 use Rattle.pad_branch.proofs.Rising.{take_all}
 use Rattle.pad_branch.proofs.branch.Branch.tip.Goals as goal
