@@ -28,3 +28,6 @@ pub use refused::KeeperRefused;
 pub use reloading::reload;
 pub use slot::{Slot, Stored};
 pub use storing::store_slot;
+
+#[cfg(test)]
+mod tests;
