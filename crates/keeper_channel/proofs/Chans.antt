@@ -37,6 +37,12 @@ unmarked_more [] more some = cc
 unmarked_more ([] ∷ two) more some = refl
 unmarked_more ((byte ∷ bytes) ∷ two) more some = ap (λ (l : List (List ℕ)). (byte ∷ bytes) ∷ l) (unmarked_more two more some)
 
+-- the marker is one payload
+pub length-unmarked : (two : List (List ℕ)) → has_marker two ≡ true → length two ≡ length (unmarked two) + 1
+length-unmarked [] some = cc
+length-unmarked ([] ∷ two) some = omega arith
+length-unmarked ((byte ∷ bytes) ∷ two) some = omega (arith, length-unmarked two some)
+
 -- moved entries and then the marker
 pub moved_marked : (old : List (List ℕ)) → has_marker (moved old ++ [] ∷ []) ≡ true
 moved_marked [] = refl

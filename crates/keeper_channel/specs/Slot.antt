@@ -1,9 +1,8 @@
 -- How a channel stands on a disk.
-use Rattle.std.specs.Prelude.{◌≡◌, ◌⊎◌, ℕ, true, false, List, [], ◌∷◌, ◌++◌, take, Option, None, Some, Result, MatchResult}
+use Rattle.std.specs.Prelude.{◌≡◌, ◌⊎◌, ℕ, true, false, List, [], ◌∷◌, ◌++◌, length, Option, None, Some, Result, MatchResult}
 use Rattle.disk_volume.specs.Disk.{Disk, reads}
-use Rattle.disk_volume.specs.Moments.{EachNow, EachSince, Grew}
+use Rattle.disk_volume.specs.Moments.{EachNow, EachSince}
 use Rattle.keeper_channel.specs.Chan.{has_marker, unmarked, moved, IsChan, IsList, IsWithin, doubt_if}
-use Rattle.gated_log.specs.Ledger.{Within}
 use Rattle.keeper_channel.specs.declared.slot.Slot.{Slot}
 use Rattle.keeper_channel.specs.declared.refused.KeeperRefused.{KeeperRefused}
 use Rattle.keeper_channel.specs.declared.slot.Slot.TheVariants.{Unmoved, Moved}
@@ -81,6 +80,6 @@ pub record IsStored {O G : Type 0} (opens_one opens_two : (List ℕ → List ℕ
   pub is_loaded : (loaded ≡ held) ⊎ (loaded ≡ held ++ suspense)
   pub each : EachSince old new (λ image. IsWithin (IsList opens_one opens_two image) held suspense
       ⊎ (IsWithin (IsList opens_one opens_two image) loaded doubtful ⊎ IsWithin (IsList opens_one opens_two image) loaded (payload ∷ [])))
-  pub left : MatchResult answer (λ index. Keeps opens_one opens_two doubt holds_one holds_two slot (loaded ++ payload ∷ []) [] new)
+  pub left : MatchResult answer (λ index. Keeps opens_one opens_two doubt holds_one holds_two slot (loaded ++ payload ∷ []) [] new × (index ≡ length loaded))
       (λ refused. Keeps opens_one opens_two doubt holds_one holds_two slot held suspense new
       ⊎ (Keeps opens_one opens_two doubt holds_one holds_two slot loaded doubtful new ⊎ Keeps opens_one opens_two doubt holds_one holds_two slot loaded (payload ∷ []) new))

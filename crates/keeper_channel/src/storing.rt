@@ -43,9 +43,10 @@ pub fn store_new<O: Ledger, G: Ledger, V: Volume>(
         };
     }
     match add(volume, &mut log, frame) {
+        // The marker is a payload of the log, and no entry.
         Ok(index) => Stored {
             slot: Some(Slot::Moved { log }),
-            answer: Ok(index),
+            answer: Ok(index.saturating_sub(1)),
         },
         Err(AppendRefused::Full) => Stored {
             slot: None,

@@ -44,7 +44,7 @@ fn the_first_store_moves_a_channel(rt: HostRuntime) -> Result<(), Fail> {
     let mut volume = MemVolume::new(alloc, Vec::new(alloc));
     volume.write_at(ONE, 0, OLD)?;
     volume.sync(ONE)?;
-    assert_eq!(rt; store(alloc, &mut volume, b"\0\0\0\0\0\0\0\x07d")?, 3);
+    assert_eq!(rt; store(alloc, &mut volume, b"\0\0\0\0\0\0\0\x07d")?, 2);
     let one = bytes_of(alloc, &mut volume, ONE)?;
     assert_eq!(rt; one.as_slice(), OLD);
     let two = bytes_of(alloc, &mut volume, TWO)?;

@@ -1,5 +1,5 @@
 -- What private functions say of a log to which something is added.
-use Rattle.std.specs.Prelude.{◌≡◌, ◌⊎◌, ℕ, List, [], ◌∷◌, ◌++◌, take, Option, Result, MatchResult}
+use Rattle.std.specs.Prelude.{◌≡◌, ◌⊎◌, ℕ, List, [], ◌∷◌, ◌++◌, take, length, Option, Result, MatchResult}
 use Rattle.disk_volume.specs.Disk.{Disk, reads}
 use Rattle.disk_volume.specs.Moments.{EachSince, Grew}
 use Rattle.gated_log.specs.Ledger.{Within}
@@ -27,5 +27,5 @@ pub record IsAdded {O G : Type 0} (opens_one opens_two : (List ℕ → List ℕ)
     (holds_one : O → List (List ℕ) → Disk → Type 0) (holds_two : G → List (List ℕ) → Disk → Type 0)
     (held suspense : List (List ℕ)) (payload : List ℕ) (slot : Option (Slot O G)) (answer : Result ℕ KeeperRefused) (old new : Disk) : Type 0 where
   pub each : EachSince old new (λ image. IsWithin (IsList opens_one opens_two image) held suspense ⊎ IsWithin (IsList opens_one opens_two image) held (payload ∷ []))
-  pub left : MatchResult answer (λ index. Keeps opens_one opens_two doubt holds_one holds_two slot (held ++ payload ∷ []) [] new)
+  pub left : MatchResult answer (λ index. Keeps opens_one opens_two doubt holds_one holds_two slot (held ++ payload ∷ []) [] new × (index ≡ length held))
       (λ refused. Keeps opens_one opens_two doubt holds_one holds_two slot held suspense new ⊎ Keeps opens_one opens_two doubt holds_one holds_two slot held (payload ∷ []) new)
