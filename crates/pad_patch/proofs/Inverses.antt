@@ -1,7 +1,7 @@
 -- The inverse of a patch gives the text back.
-use Rattle.std.proofs.Common.{◌≡◌, ℕ, zero, suc, ◌+◌, ◌-◌, ◌<◌, ◌≤◌, List, [], ◌∷◌, ◌++◌, length, take, drop, refl, sym, ◌∙◌, ap, subst, arith, append_assoc, add-one, drop-cons, slice_index_or, inl, inr}
+use Rattle.std.proofs.Common.{◌≡◌, ℕ, zero, suc, ◌+◌, ◌-◌, ◌<◌, ◌≤◌, List, [], ◌∷◌, ◌++◌, length, drop, refl, sym, ◌∙◌, ap, subst, arith, append_assoc, add-one, drop-cons, slice_index_or, inl, inr}
 use Rattle.std.specs.Prelude.{Some, All, slice_get}
-use Rattle.std.proofs.lemmas.List.{take_at, drop_at, take_all, append-nil, length-append, length-take-le, length-drop}
+use Rattle.std.proofs.lemmas.List.{length-append, length-take-le, length-drop}
 use Rattle.std.proofs.lemmas.Option.{get_or_from_slice_get}
 use Rattle.std.proofs.lemmas.Bool.{cases_lt}
 use Rattle.pad_text.specs.Text.{IsText, CutsPair}
@@ -15,7 +15,7 @@ use Rattle.pad_patch.specs.Inverse.{inverse, inverse_operation, inverse_operatio
 use Rattle.pad_patch.specs.Misfit.{Overlaps, EndsAfter, CanApply}
 use Rattle.pad_patch.proofs.Laid.{IsLaid, laid}
 use Rattle.pad_patch.proofs.Undone.{moved, inverse_end, patched-inverse, inserted-inverse_operations}
-use Rattle.pad_patch.proofs.Copies.{copy_from, text_after-copy, between-drop, Whole, InsertsTexts, InsertsTexts-all, IsText-copy_from, CanApply-laid}
+use Rattle.pad_patch.proofs.Copies.{copy_from, text_after-copy, Whole, InsertsTexts, InsertsTexts-all, IsText-copy_from, CanApply-laid}
 
 -- what the copy is made of up to an operation, and from there on
 pub record IsCut (text copy front : List ℕ) (inserted removed place : ℕ) (operations : List Operation) : Type 0 where

@@ -12,11 +12,11 @@ use Rattle.pad_patch.specs.Piece.{end_of, pieces, pieces_from, patched_pieces, p
 use Rattle.pad_patch.specs.Removed.{Removes, IsKeptFrom, old_places, removed_by}
 use Rattle.pad_patch.specs.Inverse.{inverse}
 use Rattle.pad_patch.specs.Misfit.{Overlaps, EndsAfter}
-use Rattle.pad_patch.proofs.Laid.{IsLaid, laid}
+use Rattle.pad_patch.proofs.Laid.{IsLaid}
 use Rattle.pad_patch.proofs.Copies.{length-text_after}
 use Rattle.pad_patch.proofs.Patched.{part, map-take, map-drop, map-patched, patched-next}
 use Rattle.pad_patch.proofs.Undone.{patched-inverse, inserted-inverse_operations}
-use Rattle.pad_patch.proofs.Has.{Has, has_left, has_right, has_cases, at_has, has_at, get-map, get_below, below_get, has_take, has_drop, has_part, part_has, get-range, range_get, reads, map-map, get-drop, get-take, map-const, somes_of, somes-append, somes-some, somes-none}
+use Rattle.pad_patch.proofs.Has.{Has, has_left, has_right, has_cases, at_has, has_at, get-map, below_get, has_take, has_drop, has_part, part_has, get-range, range_get, reads, map-map, get-drop, get-take, map-const, somes_of, somes-append, somes-some, somes-none}
 
 -- one of the operations removes the unit at a place
 abbrev pub RemovedIn : List Operation → ℕ → Type 0

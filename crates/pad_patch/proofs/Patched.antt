@@ -1,10 +1,10 @@
 -- Lists with one element for each unit of a text, and how a patch copies them.
-use Rattle.std.proofs.Common.{◌≡◌, ℕ, zero, suc, ◌+◌, ◌-◌, ◌≤◌, List, [], ◌∷◌, ◌++◌, length, map, take, drop, refl, sym, ◌∙◌, ap, subst, arith, append_assoc}
+use Rattle.std.proofs.Common.{◌≡◌, ℕ, zero, suc, ◌+◌, ◌-◌, ◌≤◌, List, [], ◌∷◌, ◌++◌, length, map, take, drop, refl, sym, ◌∙◌, ap, arith}
 use Rattle.std.specs.List.{flat_map}
-use Rattle.std.proofs.lemmas.List.{map-append, length-map, take_at, drop_at, append-nil, length-append, length-drop, length-take-le, take_all, drop-drop, take-append-drop}
+use Rattle.std.proofs.lemmas.List.{map-append, length-map, take_at, drop_at, length-drop, length-take-le, drop-drop, take-append-drop}
 use Rattle.pad_patch.specs.declared.operation.Operation.{Operation}
 use Rattle.pad_patch.specs.declared.patch.Patch.{Patch}
-use Rattle.pad_patch.specs.Piece.{Piece, keep, new_units, end_of, pieces, pieces_from, patched_pieces, patched, insertions, inserted, text_after}
+use Rattle.pad_patch.specs.Piece.{Piece, keep, new_units, end_of, pieces, pieces_from, patched_pieces, patched, insertions}
 
 pub map-take : {A B : Type 0} (f : A → B) (n : ℕ) (xs : List A) → map f (take n xs) ≡ take n (map f xs)
 map-take f zero xs = refl

@@ -1,13 +1,13 @@
 -- The inverse of an inverse, and what a patch removes.
-use Rattle.std.proofs.Common.{◌≡◌, ℕ, ◌+◌, ◌-◌, ◌<◌, ◌≤◌, ◌⊎◌, inl, inr, List, [], ◌∷◌, ◌++◌, length, map, take, drop, replicate, refl, sym, ◌∙◌, ap, subst, arith, append_assoc}
-use Rattle.std.specs.Prelude.{Option, Some, None, ◌↔◌, Contains, slice_get}
+use Rattle.std.proofs.Common.{◌≡◌, ℕ, ◌+◌, ◌-◌, ◌≤◌, inl, inr, List, [], ◌∷◌, ◌++◌, length, map, take, drop, replicate, refl, sym, ◌∙◌, ap, subst, arith, append_assoc}
+use Rattle.std.specs.Prelude.{Some, None, slice_get}
 use Rattle.std.specs.List.{range_with_len}
 use Rattle.std.proofs.lemmas.List.{take_at, drop_at, length-append, length-take-le, length-drop, length-replicate}
 use Rattle.pad_patch.specs.declared.operation.Operation.{Operation}
 use Rattle.pad_patch.specs.declared.patch.Patch.{Patch}
 use Rattle.pad_patch.specs.Piece.{end_of, patched, insertions, text_after}
 use Rattle.pad_patch.specs.UnitStore.{between}
-use Rattle.pad_patch.specs.Removed.{Removes, IsKeptFrom, old_places, removed_by}
+use Rattle.pad_patch.specs.Removed.{IsKeptFrom, removed_by}
 use Rattle.pad_patch.specs.Inverse.{inverse, inverse_operation, inverse_operations}
 use Rattle.pad_patch.specs.Misfit.{Overlaps, EndsAfter}
 use Rattle.pad_patch.specs.Laws.{InverseTurnsRound, InverseOfInverse, RemovedAtPlaces}

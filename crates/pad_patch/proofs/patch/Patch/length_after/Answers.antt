@@ -1,4 +1,4 @@
-use Rattle.std.proofs.Common.{arith, refl}
+use Rattle.std.proofs.Common.{arith}
 use Rattle.pad_patch.proofs.Laid.{laid}
 use Rattle.pad_patch.proofs.patch.Patch.length_after.Goals as goal
 
