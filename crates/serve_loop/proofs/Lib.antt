@@ -1,0 +1,5 @@
+mod Completing
+mod Loads
+mod Outputs
+mod Turns
+mod Waiting

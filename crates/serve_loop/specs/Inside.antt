@@ -1,0 +1,4 @@
+-- Words that only the contracts of private functions cite.
+pub mod Load
+pub mod MayHang
+pub mod Taken
