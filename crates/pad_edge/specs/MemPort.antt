@@ -6,8 +6,8 @@ use Rattle.pad_edge.specs.declared.port_event.PortEvent.{PortEvent}
 use Rattle.pad_edge.specs.declared.port_event.PortEvent.TheVariants.{Ended}
 use Rattle.pad_edge.specs.declared.sent.Sent.{Sent}
 
--- The events of its list that it gave so far and those still to come, how often it answered `Ended` after them, what was sent and
--- hung up, the connections whose sends failed, for how many hang-ups it has room, and the calls: which of them fail, how many were made,
+-- The events that it gave so far, those of its list that are still to come, how often it answered `Ended`, what was sent and hung
+-- up, the connections whose sends failed, for how many hang-ups it has room, and the calls: which of them fail, how many were made,
 -- how many calls of `listen` and `next` failed (`faults`), and how many sends (`drops`).
 pub record PortSoFar : Type 0 where
   pub events : List PortEvent

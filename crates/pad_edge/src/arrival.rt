@@ -5,6 +5,6 @@ use crate::wire::Wire;
 pub enum Arrival {
     /// A text.
     Text(Wire),
-    /// The link ended: nothing more comes.
+    /// The link ended. Nothing more is expected of it.
     Ended,
 }

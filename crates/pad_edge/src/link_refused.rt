@@ -10,7 +10,7 @@ pub enum LinkRefused {
     /// The call to the outside failed.
     #[error("a call to the outside failed")]
     Failed,
-    /// There was not enough memory. Nothing was given, sent or counted.
+    /// There was not enough memory. Nothing was given or sent, and no count of failures or ends rose.
     #[error("there was not enough memory")]
     NoMemory,
 }

@@ -123,7 +123,7 @@ impl Port for MemPort {
         ensures ends { CountsIf (is_port_end result) self.old.ends self.new.ends }
         ensures drops { self.new.drops ≡ self.old.drops }
         ensures events { Unit {0} → self.new.events ≡ events_after self.old.events result }
-        ensures once { Unit {0} → OpensOnce self.old.events → OpensOnce self.new.events }
+        ensures once { Unit {0} → OpensOnce self.new.events }
         ensures lists { Unit {0} → (self.new.sent ≡ self.old.sent) × (self.new.failed ≡ self.old.failed) }
 
         // It fails exactly if its number is listed, and else gives the next event of its list.

@@ -50,7 +50,7 @@ pub trait Port {
         ensures ends { CountsIf (is_port_end result) (ends self.old) (ends self.new) }
         ensures drops { drops self.new ≡ drops self.old }
         ensures events { tells → events self.new ≡ events_after (events self.old) result }
-        ensures once { tells → OpensOnce (events self.old) → OpensOnce (events self.new) }
+        ensures once { tells → OpensOnce (events self.new) }
         ensures lists { tells → (sent self.new ≡ sent self.old) × (failed self.new ≡ failed self.old) };
 
     /// Sends a text over a connection. `Failed` comes only if the count of drops rose in this call; each other answer leaves
@@ -64,8 +64,8 @@ pub trait Port {
         ensures spare { OnOk result (1 ≤ spare self.new) }
         ensures spare_failed { IsErrOf result refused.Failed → 1 ≤ spare self.new };
 
-    /// Hangs up: nothing more comes over this connection, and nothing more is sent. What was sent before still arrives, if the
-    /// other end reads. It takes no memory and cannot fail.
+    /// Hangs up. It takes no memory and cannot fail. What was sent before should still arrive, if the other end reads; no contract
+    /// speaks of that, nor of what still comes over this connection.
     fn hang_up(&mut self, connection: u64)
         requires { 1 ≤ spare self.old }
         ensures counts { (faults self.new ≡ faults self.old) × (drops self.new ≡ drops self.old) × (ends self.new ≡ ends self.old) }

@@ -15,7 +15,7 @@ pub enum PortEvent {
     Closed(u64),
     /// Nothing came for a while.
     Idle,
-    /// The port ended: nothing more comes.
+    /// The port ended. Nothing more is expected of it.
     Ended,
 }
 
