@@ -1,0 +1,6 @@
+mod Names
+mod Begun
+mod Ends
+mod Counts
+mod Questions
+mod Named
