@@ -35,6 +35,7 @@ pub record IsMoved {G : Type 0} (holds_two : G → List (List ℕ) → Disk → 
   pub held_is : held ≡ unmarked new
   pub suspense_is : suspense ≡ doubt (reads disk)
 
+-- a loaded channel is one or the other
 abbrev pub IsLive : {O G : Type 0} (holds_one : O → List (List ℕ) → Disk → Type 0) (holds_two : G → List (List ℕ) → Disk → Type 0) (doubt : (List ℕ → List ℕ) → List (List ℕ))
     → Slot O G → (held suspense : List (List ℕ)) → Disk → Type 0
 IsLive holds_one holds_two doubt (Unmoved one two) held suspense disk = IsUnmoved holds_one holds_two one two held suspense disk
@@ -57,10 +58,6 @@ abbrev pub Keeps : {O G : Type 0} (opens_one opens_two : (List ℕ → List ℕ)
 Keeps opens_one opens_two doubt holds_one holds_two None held suspense disk = EachNow disk (λ image. IsWithin (IsList opens_one opens_two image) held suspense)
 Keeps opens_one opens_two doubt holds_one holds_two (Some slot) held suspense disk = IsLive holds_one holds_two doubt slot held suspense disk
 
--- so many old entries were moved: the new log has them and nothing is doubtful, the old log is as it was, and since `start` each crash
-
--- What a store into a live channel did: since it began each crash leaves the list, with what was in suspense or with the payload or
-
 -- a channel was loaded again: it has the list held, or that and what was in suspense, of the two the one that its files open as
 pub record IsReloaded {O G : Type 0} (opens_one opens_two : (List ℕ → List ℕ) → List (List ℕ) → Type 0) (doubt : (List ℕ → List ℕ) → List (List ℕ))
     (holds_one : O → List (List ℕ) → Disk → Type 0) (holds_two : G → List (List ℕ) → Disk → Type 0)
@@ -71,13 +68,16 @@ pub record IsReloaded {O G : Type 0} (opens_one opens_two : (List ℕ → List �
   pub is_loaded : (loaded ≡ held) ⊎ (loaded ≡ held ++ suspense)
   pub live : IsLive holds_one holds_two doubt slot loaded doubtful new
 
--- What a store into a channel did, one that was loaded for it too: `loaded` and `doubtful` stood right after that load.
+-- What a store into a channel did. It came to the list `loaded`, with `doubtful` in suspense: those that were held, or, where the
+-- channel was loaded for it, those that its files opened as. Since it began each crash leaves one of these lists, and after it
+-- the channel keeps one of them.
 pub record IsStored {O G : Type 0} (opens_one opens_two : (List ℕ → List ℕ) → List (List ℕ) → Type 0) (doubt : (List ℕ → List ℕ) → List (List ℕ))
     (holds_one : O → List (List ℕ) → Disk → Type 0) (holds_two : G → List (List ℕ) → Disk → Type 0)
     (held suspense : List (List ℕ)) (payload : List ℕ) (slot : Option (Slot O G)) (answer : Result ℕ KeeperRefused) (old new : Disk) : Type 0 where
   pub loaded : List (List ℕ)
   pub doubtful : List (List ℕ)
   pub is_loaded : (loaded ≡ held) ⊎ (loaded ≡ held ++ suspense)
+  pub found : ((loaded ≡ held) × (doubtful ≡ suspense)) ⊎ IsFound opens_one opens_two doubt (reads old) loaded doubtful
   pub each : EachSince old new (λ image. IsWithin (IsList opens_one opens_two image) held suspense
       ⊎ (IsWithin (IsList opens_one opens_two image) loaded doubtful ⊎ IsWithin (IsList opens_one opens_two image) loaded (payload ∷ [])))
   pub left : MatchResult answer (λ index. Keeps opens_one opens_two doubt holds_one holds_two slot (loaded ++ payload ∷ []) [] new × (index ≡ length loaded))

@@ -30,6 +30,7 @@ pub fn store_new<O: Ledger, G: Ledger, V: Volume>(
     ensures added { V.tells → (held suspense : List (List ℕ)) → IsMoved G.holds (G.doubt Form.Two (G.name log)) log held suspense (V.disk volume.old)
         → IsAdded (O.opens_as Form.One one.now) (G.opens_as Form.Two (G.name log)) (G.doubt Form.Two (G.name log)) O.holds G.holds held suspense frame.now result.slot result.answer (V.disk volume.old) (V.disk volume.new) }
     ensures files { V.tells → Grew (G.owns (G.name log)) (V.disk volume.old) (V.disk volume.new) }
+    ensures made { IfSome result.slot (IsSlotOf (λ old. (O.name old ≡ one.now) × (O.form_of old ≡ Form.One) × IsTrue (O.live old)) (λ kept. (G.name kept ≡ G.name log) × (G.form_of kept ≡ Form.Two) × IsTrue (G.live kept))) }
     ensures follows { V.follows volume.old volume.new }
     ensures store { IsErrOf result.answer KeeperRefused.Store → Rose (V.faults volume.old) (V.faults volume.new) }
     ensures kept { IsErrOf result.answer KeeperRefused.Store ⊎ (V.faults volume.new ≡ V.faults volume.old) }
@@ -79,6 +80,7 @@ fn store_old<O: Ledger, G: Ledger, V: Volume>(
     ensures added { V.tells → (held suspense : List (List ℕ)) → IsUnmoved O.holds G.holds old loaded held suspense (V.disk volume.old)
         → IsAdded (O.opens_as Form.One one.now) (G.opens_as Form.Two two.now) (G.doubt Form.Two two.now) O.holds G.holds held suspense frame.now result.slot result.answer (V.disk volume.old) (V.disk volume.new) }
     ensures files { V.tells → Grew (G.owns two.now) (V.disk volume.old) (V.disk volume.new) }
+    ensures made { IfSome result.slot (IsSlotOf (λ log. (O.name log ≡ one.now) × (O.form_of log ≡ Form.One) × IsTrue (O.live log)) (λ log. (G.name log ≡ two.now) × (G.form_of log ≡ Form.Two) × IsTrue (G.live log))) }
     ensures follows { V.follows volume.old volume.new }
     ensures store { IsErrOf result.answer KeeperRefused.Store → Rose (V.faults volume.old) (V.faults volume.new) }
     ensures kept { IsErrOf result.answer KeeperRefused.Store ⊎ (V.faults volume.new ≡ V.faults volume.old) }
@@ -108,6 +110,7 @@ fn store_live<O: Ledger, G: Ledger, V: Volume>(
     ensures added { V.tells → (held suspense : List (List ℕ)) → IsLive O.holds G.holds (G.doubt Form.Two two.now) slot held suspense (V.disk volume.old)
         → IsAdded (O.opens_as Form.One one.now) (G.opens_as Form.Two two.now) (G.doubt Form.Two two.now) O.holds G.holds held suspense frame.now result.slot result.answer (V.disk volume.old) (V.disk volume.new) }
     ensures files { V.tells → Grew (G.owns two.now) (V.disk volume.old) (V.disk volume.new) }
+    ensures made { IfSome result.slot (IsSlotOf (λ log. (O.name log ≡ one.now) × (O.form_of log ≡ Form.One) × IsTrue (O.live log)) (λ log. (G.name log ≡ two.now) × (G.form_of log ≡ Form.Two) × IsTrue (G.live log))) }
     ensures follows { V.follows volume.old volume.new }
     ensures store { IsErrOf result.answer KeeperRefused.Store → Rose (V.faults volume.old) (V.faults volume.new) }
     ensures kept { IsErrOf result.answer KeeperRefused.Store ⊎ (V.faults volume.new ≡ V.faults volume.old) }
@@ -135,6 +138,7 @@ fn store_lost<O: Ledger, G: Ledger, V: Volume>(
     ensures stored { V.tells → (held suspense : List (List ℕ)) → EachNow (V.disk volume.old) (λ image. IsWithin (IsList (O.opens_as Form.One one.now) (G.opens_as Form.Two two.now) image) held suspense)
         → IsStored (O.opens_as Form.One one.now) (G.opens_as Form.Two two.now) (G.doubt Form.Two two.now) O.holds G.holds held suspense frame.now result.slot result.answer (V.disk volume.old) (V.disk volume.new) }
     ensures files { V.tells → Grew (Either (O.owns one.now) (G.owns two.now)) (V.disk volume.old) (V.disk volume.new) }
+    ensures made { IfSome result.slot (IsSlotOf (λ log. (O.name log ≡ one.now) × (O.form_of log ≡ Form.One) × IsTrue (O.live log)) (λ log. (G.name log ≡ two.now) × (G.form_of log ≡ Form.Two) × IsTrue (G.live log))) }
     ensures follows { V.follows volume.old volume.new }
     ensures store { IsErrOf result.answer KeeperRefused.Store → Rose (V.faults volume.old) (V.faults volume.new) }
     ensures kept { IsErrOf result.answer KeeperRefused.Store ⊎ (V.faults volume.new ≡ V.faults volume.old) }
@@ -172,6 +176,7 @@ pub fn store_slot<O: Ledger, G: Ledger, V: Volume>(
     ensures stored { V.tells → (held suspense : List (List ℕ)) → Keeps (O.opens_as Form.One one.now) (G.opens_as Form.Two two.now) (G.doubt Form.Two two.now) O.holds G.holds slot held suspense (V.disk volume.old)
         → IsStored (O.opens_as Form.One one.now) (G.opens_as Form.Two two.now) (G.doubt Form.Two two.now) O.holds G.holds held suspense frame.now result.slot result.answer (V.disk volume.old) (V.disk volume.new) }
     ensures files { V.tells → Grew (Either (O.owns one.now) (G.owns two.now)) (V.disk volume.old) (V.disk volume.new) }
+    ensures made { IfSome result.slot (IsSlotOf (λ log. (O.name log ≡ one.now) × (O.form_of log ≡ Form.One) × IsTrue (O.live log)) (λ log. (G.name log ≡ two.now) × (G.form_of log ≡ Form.Two) × IsTrue (G.live log))) }
     ensures follows { V.follows volume.old volume.new }
     ensures store { IsErrOf result.answer KeeperRefused.Store → Rose (V.faults volume.old) (V.faults volume.new) }
     ensures kept { IsErrOf result.answer KeeperRefused.Store ⊎ (V.faults volume.new ≡ V.faults volume.old) }

@@ -1,14 +1,15 @@
 //! Payloads, keys and starts of histories, by values from outside.
 use super::{Index, build_payload, content_of, is_checkpoint, key_of, moment_of, sender_of};
-use pad_text::Name;
+use pad_text::{Name, is_lower_hex};
 use std::test::Fail;
 
-const SENDER: &[u8; 32] = b"0000000000000001e56a5d4028bd8653";
+const SENDER: &str = "0000000000000001e56a5d4028bd8653";
 
 #[test]
 fn a_payload_is_a_moment_a_sender_and_a_content(rt: HostRuntime) -> Result<(), Fail> {
     let alloc = rt.alloc();
-    let payload = build_payload(alloc, 0x0102, SENDER, "m")?;
+    assert!(rt; is_lower_hex(SENDER, 32));
+    let payload = build_payload(alloc, 0x0102, SENDER.as_bytes(), "m")?;
     let bytes = payload.as_slice();
     assert_eq!(rt;
         bytes,
@@ -17,7 +18,7 @@ fn a_payload_is_a_moment_a_sender_and_a_content(rt: HostRuntime) -> Result<(), F
     assert_eq!(rt; content_of(bytes), Some("m"));
     assert!(rt; bytes.len() >= 40);
     assert_eq!(rt; moment_of(bytes), 258);
-    assert_eq!(rt; sender_of(bytes), Some("0000000000000001e56a5d4028bd8653"));
+    assert_eq!(rt; sender_of(bytes), Some(SENDER));
     Ok(())
 }
 

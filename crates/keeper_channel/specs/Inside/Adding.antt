@@ -12,7 +12,8 @@ use Rattle.keeper_channel.specs.declared.refused.KeeperRefused.{KeeperRefused}
 abbrev pub IsAdding : (List (List ℕ) → Type 0) → (payloads doubt : List (List ℕ)) → (payload : List ℕ) → Type 0
 IsAdding opens payloads doubt payload = Within opens payloads doubt ⊎ Within opens payloads (payload ∷ [])
 
--- left the channel's list
+-- So many entries of form One were moved: the log of form Two has them and nothing is doubtful, that of form One is as it was, and
+-- since `start` each crash left the channel's list.
 pub record IsMoving {O G : Type 0} (opens_one opens_two : (List ℕ → List ℕ) → List (List ℕ) → Type 0) (doubt : (List ℕ → List ℕ) → List (List ℕ))
     (holds_one : O → List (List ℕ) → Disk → Type 0) (holds_two : G → List (List ℕ) → Disk → Type 0) (owns : List ℕ → Type 0)
     (one : O) (log : G) (old : List (List ℕ)) (index : ℕ) (start disk : Disk) : Type 0 where
@@ -22,7 +23,8 @@ pub record IsMoving {O G : Type 0} (opens_one opens_two : (List ℕ → List ℕ
   pub each : EachSince start disk (λ image. IsList opens_one opens_two image (moved old))
   pub files : Grew owns start disk
 
--- without, and it left the list with the payload, or the list with one of the two in suspense.
+-- What a store into a loaded channel did: since it began each crash leaves the list, with what was in suspense or with the payload
+-- or without, and it left the list with the payload, or the list with one of the two in suspense.
 pub record IsAdded {O G : Type 0} (opens_one opens_two : (List ℕ → List ℕ) → List (List ℕ) → Type 0) (doubt : (List ℕ → List ℕ) → List (List ℕ))
     (holds_one : O → List (List ℕ) → Disk → Type 0) (holds_two : G → List (List ℕ) → Disk → Type 0)
     (held suspense : List (List ℕ)) (payload : List ℕ) (slot : Option (Slot O G)) (answer : Result ℕ KeeperRefused) (old new : Disk) : Type 0 where

@@ -1,7 +1,8 @@
-use Rattle.std.proofs.Common.{List, ℕ, sym, subst}
+use Rattle.std.proofs.Common.{◌≡◌, IfSome, IsTrue, List, ℕ, sym, subst}
 use Rattle.log_format.specs.declared.form.Form.TheVariants.{One, Two}
 use Rattle.keeper_channel.specs.Slot.{IsMoved}
 use Rattle.keeper_channel.specs.Inside.Adding.{IsAdded}
+use Rattle.keeper_channel.specs.Slot.{IsSlotOf}
 use Rattle.keeper_channel.proofs.storing.store_live.Goals as goal
 
 pub returns-in-Moved-clause-added : goal.returns-in-Moved-clause-added
@@ -12,3 +13,10 @@ returns-in-Moved-clause-added g c = λ told held suspense is.
     let R : List ℕ → Type 0 = λ n. IsAdded (O.opens_as One c.args.one.now) (G.opens_as Two n) (G.doubt Two n) O.holds G.holds held suspense c.args.frame.now c.store_new.result.slot c.store_new.result.answer old new in
     let there = subst (λ (n : List ℕ). IsMoved G.holds (G.doubt Two n) log held suspense old) (sym named) (rw c.in-Moved.is at is) in
     subst R named (c.store_new.ensures.added told held suspense there)
+
+pub returns-in-Moved-clause-made : goal.returns-in-Moved-clause-made
+returns-in-Moved-clause-made g c =
+    let O = g.O.Ledger in let G = g.G.Ledger in
+    let named = (rw c.in-Moved.is at c.requires.made).0 in
+    let P : List ℕ → Type 0 = λ n. IfSome c.store_new.result.slot (IsSlotOf (λ log. (O.name log ≡ c.args.one.now) × (O.form_of log ≡ One) × IsTrue (O.live log)) (λ log. (G.name log ≡ n) × (G.form_of log ≡ Two) × IsTrue (G.live log))) in
+    subst P named c.store_new.ensures.made

@@ -19,6 +19,7 @@ returns-in-Ok-clause-stored g c = λ told held suspense tie.
       loaded = was.loaded;
       doubtful = was.doubtful;
       is_loaded = was.is_loaded;
+      found = inr was.found;
       each = each_then old mid new P (c.store_live.ensures.files told) (λ image left. inl (c.in-Ok.ensures.any_moment told held suspense tie image left)) (λ image left. inr (stored.each image left));
       left = MatchResult-weaker c.store_live.result.answer stored.left (λ index kept. kept) (λ refused kept. inr kept);
     }
@@ -30,6 +31,7 @@ returns-in-Err-Store-clause-stored g c = λ told held suspense tie.
       loaded = held;
       doubtful = suspense;
       is_loaded = inl refl;
+      found = inl (refl, refl);
       each = λ image left. inl (c.reload.ensures.any_moment told held suspense tie image left);
       left = inl (λ image now. c.reload.ensures.any_moment told held suspense tie image (since_now (moment old) mid image now));
     }
@@ -41,6 +43,7 @@ returns-in-Err-Damaged-clause-stored g c = λ told held suspense tie.
       loaded = held;
       doubtful = suspense;
       is_loaded = inl refl;
+      found = inl (refl, refl);
       each = λ image left. inl (c.reload.ensures.any_moment told held suspense tie image left);
       left = inl (λ image now. c.reload.ensures.any_moment told held suspense tie image (since_now (moment old) mid image now));
     }
@@ -52,6 +55,7 @@ returns-in-Err-NoMemory-clause-stored g c = λ told held suspense tie.
       loaded = held;
       doubtful = suspense;
       is_loaded = inl refl;
+      found = inl (refl, refl);
       each = λ image left. inl (c.reload.ensures.any_moment told held suspense tie image left);
       left = inl (λ image now. c.reload.ensures.any_moment told held suspense tie image (since_now (moment old) mid image now));
     }

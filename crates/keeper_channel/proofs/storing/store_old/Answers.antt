@@ -1,4 +1,4 @@
-use Rattle.std.proofs.Common.{◌≡◌, ◌∙◌, ◌⊎◌, inl, List, ℕ, [], ◌∷◌, ◌++◌, sym, subst}
+use Rattle.std.proofs.Common.{IfSome, IsTrue, ◌≡◌, ◌∙◌, ◌⊎◌, inl, List, ℕ, [], ◌∷◌, ◌++◌, sym, subst}
 use Rattle.disk_volume.specs.Disk.{reads}
 use Rattle.disk_volume.specs.Moments.{moment, Grew, EachSince}
 use Rattle.disk_volume.specs.Lemmas.Since.{each_then, grew_then, since_now}
@@ -6,6 +6,7 @@ use Rattle.keeper_channel.specs.Chan.{moved, IsList, IsWithin}
 use Rattle.log_format.specs.declared.form.Form.{Form}
 use Rattle.log_format.specs.declared.form.Form.TheVariants.{One, Two}
 use Rattle.keeper_channel.specs.Inside.Adding.{IsAdded}
+use Rattle.keeper_channel.specs.Slot.{IsSlotOf}
 use Rattle.keeper_channel.proofs.Chans.{moved_marked, moved_without}
 use Rattle.keeper_channel.proofs.storing.store_old.Goals as goal
 
@@ -68,3 +69,9 @@ returns-clause-added g c = λ told held suspense is.
       each = λ image left. inl (inl (subst (IsList opens_one opens_two image) (sym is.held_is) (before image left)));
       left = inl (λ image now. inl (subst (IsList opens_one opens_two image) (sym is.held_is) (before image (since_now (moment old) mid image now))));
     }
+
+pub returns-in-Ok-clause-made : goal.returns-in-Ok-clause-made
+returns-in-Ok-clause-made g c =
+    let O = g.O.Ledger in let G = g.G.Ledger in
+    let P : List ℕ → Type 0 = λ n. IfSome c.store_new.result.slot (IsSlotOf (λ log. (O.name log ≡ c.args.one.now) × (O.form_of log ≡ One) × IsTrue (O.live log)) (λ log. (G.name log ≡ n) × (G.form_of log ≡ Two) × IsTrue (G.live log))) in
+    subst P (c.in-Ok.ensures.made).0 c.store_new.ensures.made

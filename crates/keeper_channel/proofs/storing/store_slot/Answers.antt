@@ -10,6 +10,7 @@ returns-in-Some-clause-stored g c = λ told held suspense tie.
       loaded = held;
       doubtful = suspense;
       is_loaded = inl refl;
+      found = inl (refl, refl);
       each = λ image left. inr (stored.each image left);
       left = MatchResult-weaker c.store_live.result.answer stored.left (λ index kept. kept) (λ refused kept. inr kept);
     }
