@@ -24,8 +24,8 @@ abbrev pub moved : List (List ℕ) → List (List ℕ)
 moved [] = []
 moved (payload ∷ payloads) = at_moment_zero payload ∷ moved payloads
 
--- A channel's list: what the file of form two opens as without its first marker where it has one, and otherwise what the
--- file of form one opens as, moved.
+-- A channel's list: what the file of form Two opens as without its first marker where it has one, and otherwise what the
+-- file of form One opens as, moved.
 abbrev pub IsChan : (one : List (List ℕ) → Type 0) → (two list : List (List ℕ)) → Type 0
 IsChan one two list = MatchBool (has_marker two) (list ≡ unmarked two) ((old : List (List ℕ)) × one old × (list ≡ moved old))
 
@@ -33,7 +33,7 @@ IsChan one two list = MatchBool (has_marker two) (list ≡ unmarked two) ((old :
 abbrev pub IsList : (opens_one opens_two : (List ℕ → List ℕ) → List (List ℕ) → Type 0) → (files : List ℕ → List ℕ) → (list : List (List ℕ)) → Type 0
 IsList opens_one opens_two files list = (two : List (List ℕ)) × opens_two files two × IsChan (opens_one files) two list
 
--- what is doubtful of the list: that of the file of form two where it has a marker
+-- what is doubtful of the list: that of the file of form Two where it has a marker
 abbrev pub doubt_if : Bool → List (List ℕ) → List (List ℕ)
 doubt_if true doubt = doubt
 doubt_if false doubt = []

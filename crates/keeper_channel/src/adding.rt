@@ -9,7 +9,7 @@ use disk_volume::Volume;
 use gated_log::{AppendRefused, Ledger};
 use log_format::Frame;
 
-/// Primes a log and appends a payload whose entry has so many bytes.
+/// Primes a log for a payload and appends it.
 pub fn add<G: Ledger, V: Volume>(
     volume: &mut V,
     log: &mut G,

@@ -2,7 +2,7 @@
 //!
 //! A channel has a log of form One and a log of form Two. While that of form Two has no marker (a payload without bytes), the
 //! list is that of form One; from the marker on it is that of form Two, without the marker. `load_channel` finds which; a
-//! store moves the entries of form One and appends the marker first. At each moment of each call a crash leaves files whose
+//! store to a channel without a marker first copies the entries of form One into form Two, and then appends the marker. At each moment of each call a crash leaves files whose
 //! list is the one that was held, or that one with what is in suspense. The contracts hold for every two ledgers.
 //!
 //! ```text

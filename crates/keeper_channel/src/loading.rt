@@ -13,7 +13,7 @@ use gated_log::{Ledger, LoadRefused, PayloadRefused};
 use log_format::Form;
 use std::alloc::Global;
 
-/// Loads a channel: form two first, and form one where that has no marker. It writes nothing.
+/// Loads a channel: form Two first, and form One where that has no marker. It writes nothing.
 pub fn load_channel<O: Ledger, G: Ledger, V: Volume>(
     alloc: Global,
     volume: &mut V,
@@ -45,7 +45,7 @@ pub fn load_channel<O: Ledger, G: Ledger, V: Volume>(
     load_old(alloc, volume, one, log)
 }
 
-/// Loads form one.
+/// Loads form One.
 fn load_old<O: Ledger, G: Ledger, V: Volume>(
     alloc: Global,
     volume: &mut V,

@@ -12,7 +12,7 @@ use gated_log::{Ledger, LoadRefused};
 use log_format::{Form, Frame};
 use std::alloc::{AllocError, Global};
 
-/// Makes form two an empty log, where it has no marker.
+/// Makes the log of form Two one without entries, where it has no marker.
 fn restart_channel<O: Ledger, G: Ledger, V: Volume>(
     alloc: Global,
     volume: &mut V,
