@@ -1,3 +1,4 @@
+pub mod CallerLemmas
 mod Completing
 mod Loads
 mod Outputs

@@ -24,7 +24,7 @@ returns-in_default-clause-part g c = λ port machine state stands.
     let items = first_removed c.closings.waiting.items rest connection long c.remove-connection.ensures.value c.remove-connection.ensures.items in
     let Q : List ℕ → Type 0 = λ w. IsClosing M.Step (M.stands c.closings.machine c.closings.world) c.args.moment state c.args.waiting.items w (P.sent c.args.port.now) (P.sent c.closings.port) (P.failed c.args.port.now) (P.failed c.closings.port) in
     let here = subst Q items (c.closings.invariant.closing port machine state stands) in
-    closing_broke M.Step (M.stands c.closings.machine c.closings.world) _ _ c.args.moment state c.args.waiting.items rest connection
+    closing_broke M.Step (M.stands c.closings.machine c.closings.world) (M.stands c.step.new.self c.step.new.world) (λ s m e. M.breaks s m e c.step.new.world) c.args.moment state c.args.waiting.items rest connection
     (P.sent c.args.port.now) (P.sent c.closings.port) (P.failed c.args.port.now) (P.failed c.closings.port) here (c.in_default.ensures.broken machine here.mid here.stands)
 
 pub returns-in_err-deliver-clause-part : goal.returns-in_err-deliver-clause-part
@@ -37,7 +37,7 @@ returns-in_err-deliver-clause-part g c = λ port machine state stands.
     let here = subst Q items (c.closings.invariant.closing port machine state stands) in
     let step = c.in-Ok.ensures.step machine here.mid here.stands in
     let R : List Out → Type 0 = λ l. IsCut rest l (P.sent c.closings.port) (P.sent c.deliver.new.port) (P.failed c.closings.port) (P.failed c.deliver.new.port) in
-    on_err c.from_residual.result (closing_cut M.Step (M.stands c.closings.machine c.closings.world) _ _ c.args.moment state step.0 c.args.waiting.items rest connection c.in-Ok.outs
+    on_err c.from_residual.result (closing_cut M.Step (M.stands c.closings.machine c.closings.world) (M.stands c.step.new.self c.step.new.world) (λ s m e. M.breaks s m e c.step.new.world) c.args.moment state step.0 c.args.waiting.items rest connection c.in-Ok.outs
     (P.sent c.args.port.now) (P.sent c.closings.port) (P.sent c.deliver.new.port) (P.failed c.args.port.now) (P.failed c.closings.port) (P.failed c.deliver.new.port)
     here step.1 step.2 (subst R c.as_slice.ensures (c.in_err-deliver.ensures.cut port)))
 

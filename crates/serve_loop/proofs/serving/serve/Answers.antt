@@ -21,7 +21,7 @@ pub returns-in_err-event-clause-stopped : goal.returns-in_err-event-clause-stopp
 returns-in_err-event-clause-stopped g c = λ port machine state stands.
     let P = g.P.Port in let M = g.M.Machine in let C = g.C.Clock in
     let same = c.next.ensures.lists port in
-    on_err _ (stopped_between M.Step (M.stands c.loop-turn.machine c.loop-turn.world) _ state c.loop-turn.turn C.tells (C.coming c.args.clock.now)
+    on_err _ (stopped_between M.Step (M.stands c.loop-turn.machine c.loop-turn.world) (λ s m e. M.breaks s m e c.loop-turn.world) state c.loop-turn.turn C.tells (C.coming c.args.clock.now)
     (P.events c.args.port.now) (P.events c.loop-turn.port) (P.events c.next.new.self) (P.sent c.args.port.now) (P.sent c.loop-turn.port) (P.sent c.next.new.self)
     (P.failed c.args.port.now) (P.failed c.loop-turn.port) (P.failed c.next.new.self)
     (c.loop-turn.invariant.served port machine state stands) (c.in_err-event.ensures.events port) same.0 same.1)
@@ -31,7 +31,7 @@ returns-in_err-take_event-clause-stopped g c = λ port machine state stands.
     let P = g.P.Port in let M = g.M.Machine in let C = g.C.Clock in
     let so_far = c.loop-turn.invariant.served port machine state stands in
     let same = c.next.ensures.lists port in
-    on_err _ (stopped_within M.Step (M.stands c.loop-turn.machine c.loop-turn.world) _ _ state c.loop-turn.turn c.now-moment.result C.tells (C.coming c.args.clock.now) c.in_ok-event.event
+    on_err _ (stopped_within M.Step (M.stands c.loop-turn.machine c.loop-turn.world) (M.stands c.take_event.new.machine c.take_event.new.world) (λ s m e. M.breaks s m e c.take_event.new.world) state c.loop-turn.turn c.now-moment.result C.tells (C.coming c.args.clock.now) c.in_ok-event.event
     (P.events c.args.port.now) (P.events c.loop-turn.port) (P.events c.take_event.new.port) (P.sent c.args.port.now) (P.sent c.loop-turn.port) (P.sent c.next.new.self) (P.sent c.take_event.new.port)
     (P.failed c.args.port.now) (P.failed c.loop-turn.port) (P.failed c.next.new.self) (P.failed c.take_event.new.port)
     so_far (c.take_event.ensures.events port ∙ c.in_ok-event.ensures.events port) same.0 same.1

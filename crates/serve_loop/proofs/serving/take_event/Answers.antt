@@ -11,7 +11,8 @@ returns-in-None-clause-taken g c = λ port machine state stands.
 
 pub returns-in_default-clause-part : goal.returns-in_default-clause-part
 returns-in_default-clause-part g c = λ port machine state stands.
-    taken_broke g.M.Machine.Step _ _ c.args.moment state c.args.event c.in-Some.event (g.P.Port.sent c.args.port.now) (g.P.Port.failed c.args.port.now)
+    let M = g.M.Machine in
+    taken_broke M.Step (M.stands c.step.new.self c.step.new.world) (λ s m e. M.breaks s m e c.step.new.world) c.args.moment state c.args.event c.in-Some.event (g.P.Port.sent c.args.port.now) (g.P.Port.failed c.args.port.now)
     (sym c.hear.ensures ∙ c.in-Some.is) (c.in_default.ensures.broken machine state stands)
 
 pub returns-in_err-deliver-clause-part : goal.returns-in_err-deliver-clause-part
@@ -20,7 +21,7 @@ returns-in_err-deliver-clause-part g c = λ port machine state stands.
     let step = c.in-Ok.ensures.step machine state stands in
     let R : List ℕ → List Out → Type 0 = λ w l. IsCut w l (P.sent c.args.port.now) (P.sent c.deliver.new.port) (P.failed c.args.port.now) (P.failed c.deliver.new.port) in
     let part = subst (λ (l : List Out). R [] l) c.as_slice.ensures (subst (λ (w : List ℕ). R w c.as_slice.result.now) c.new-waiting.ensures.items (c.in_err-deliver.ensures.cut port)) in
-    on_err c.from_residual.result (taken_cut M.Step _ _ c.args.moment state step.0 c.args.event c.in-Some.event c.in-Ok.outs
+    on_err c.from_residual.result (taken_cut M.Step (M.stands c.step.new.self c.step.new.world) (λ s m e. M.breaks s m e c.step.new.world) c.args.moment state step.0 c.args.event c.in-Some.event c.in-Ok.outs
     (P.sent c.args.port.now) (P.sent c.deliver.new.port) (P.failed c.args.port.now) (P.failed c.deliver.new.port)
     (sym c.hear.ensures ∙ c.in-Some.is) step.1 step.2 part)
 
@@ -45,7 +46,7 @@ returns-clause-part g c = λ port machine state stands.
     let R : List ℕ → List Out → Type 0 = λ w l. IsDelivered w after l (P.sent c.args.port.now) (P.sent c.deliver.new.port) (P.failed c.args.port.now) (P.failed c.deliver.new.port) in
     let delivered = subst (λ (l : List Out). R [] l) c.as_slice.ensures (subst (λ (w : List ℕ). R w c.as_slice.result.now) c.new-waiting.ensures.items (c.in_ok-deliver.ensures.delivered port)) in
     on_err_map c.close_waiting.result
-    (taken_closing M.Step _ _ c.args.moment state step.0 c.args.event c.in-Some.event c.in-Ok.outs after
+    (taken_closing M.Step (M.stands c.close_waiting.new.machine c.close_waiting.new.world) (λ s m e. M.breaks s m e c.close_waiting.new.world) c.args.moment state step.0 c.args.event c.in-Some.event c.in-Ok.outs after
     (P.sent c.args.port.now) (P.sent c.deliver.new.port) (P.sent c.close_waiting.new.port) (P.failed c.args.port.now) (P.failed c.deliver.new.port) (P.failed c.close_waiting.new.port)
     (sym c.hear.ensures ∙ c.in-Some.is) step.1 delivered)
     (c.close_waiting.ensures.part port machine step.0 step.2)
