@@ -7,12 +7,13 @@ use Rattle.pad_text.specs.Hash.{document_hash}
 use Rattle.pad_message.specs.declared.message.Message.{Message}
 use Rattle.pad_graph.specs.State as graph
 use Rattle.pad_graph.specs.Graph.{Stands}
-use Rattle.pad_graph.specs.Count.{NoRepeat}
+use Rattle.pad_list.specs.Number.{NoRepeat}
 use Rattle.pad_model.specs.declared.base.Base.{Base}
 use Rattle.pad_model.specs.Path.{IsLinkedPath, IsPath, NamesDiffer}
 use Rattle.pad_model.specs.Best.{IsBetter, IsBest}
 use Rattle.pad_model.specs.Choice.{first_choice}
-use Rattle.pad_model.proofs.CallerLemmas.{contains_none, never_better_itself}
+use Rattle.pad_list.proofs.CallerLemmas.{contains_none}
+use Rattle.pad_model.proofs.CallerLemmas.{never_better_itself}
 use Rattle.pad_checkpoint.specs.Links.{AreLinks}
 use Rattle.pad_branch.specs.declared.held.Held.{Held}
 use Rattle.pad_branch.specs.Held.{mark_of, marks}

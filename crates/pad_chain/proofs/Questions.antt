@@ -4,7 +4,7 @@ use Rattle.pad_message.specs.declared.message.Message.{Message}
 use Rattle.pad_graph.specs.State as graph
 use Rattle.pad_model.specs.declared.base.Base.{Base}
 use Rattle.pad_model.specs.Path.{IsLinkedPath}
-use Rattle.pad_model.specs.Number.{IsNumberOf}
+use Rattle.pad_list.specs.Number.{IsNumberOf}
 use Rattle.pad_model.specs.Choice.{Choice}
 use Rattle.pad_model.specs.Count.{IsKnown, IsWaiting, IsKept}
 use Rattle.pad_model.proofs.CallerLemmas.{linked_below}

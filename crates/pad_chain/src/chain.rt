@@ -15,7 +15,7 @@ ghost use Rattle.pad_graph.specs.Graph.{IsStanding};
 ghost use Rattle.pad_model.specs.declared.base.Base.{Base};
 ghost use Rattle.pad_model.specs.Base.{first_base, Gives};
 ghost use Rattle.pad_model.specs.Path.{text, interval, since_checkpoint};
-ghost use Rattle.pad_model.specs.Number.{IsNumberOf};
+ghost use Rattle.pad_list.specs.Number.{IsNumberOf};
 ghost use Rattle.pad_model.specs.Choice.{Choice, first_choice};
 ghost use Rattle.pad_model.specs.Count.{IsKnown, IsWaiting, IsKept};
 ghost use Rattle.pad_checkpoint.specs.Place.{place_of};

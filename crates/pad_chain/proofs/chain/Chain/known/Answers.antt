@@ -1,5 +1,5 @@
 use Rattle.std.proofs.Common.{◌≡◌, sym, ap, ◌∙◌, subst}
-use Rattle.pad_model.specs.Number.{IsNumberOf}
+use Rattle.pad_list.specs.Number.{IsNumberOf}
 use Rattle.pad_model.specs.Count.{IsKnown}
 use Rattle.pad_chain.proofs.Questions.{known_of}
 use Rattle.pad_chain.specs.State.{View}
