@@ -1,5 +1,5 @@
 -- A chain to which no message came stands for its base alone.
-use Rattle.std.proofs.Common.{◌≡◌, ◌⊎◌, ℕ, zero, suc, List, [], ◌∷◌, ◌++◌, Bool, true, false, Contains, Option, Some, None, refl, sym, ap, ◌∙◌, subst}
+use Rattle.std.proofs.Common.{◌≡◌, ℕ, List, [], ◌∷◌, Bool, true, false, Some, None, refl, sym, ap, ◌∙◌, subst}
 use Rattle.std.specs.Map.{lookup}
 use Rattle.std.specs.BTreeMap.{is_at}
 use Rattle.pad_text.specs.declared.name.Name.{Name}
@@ -7,17 +7,15 @@ use Rattle.pad_text.specs.Hash.{document_hash}
 use Rattle.pad_message.specs.declared.message.Message.{Message}
 use Rattle.pad_graph.specs.State as graph
 use Rattle.pad_graph.specs.Graph.{Stands}
-use Rattle.pad_list.specs.Number.{NoRepeat}
 use Rattle.pad_model.specs.declared.base.Base.{Base}
-use Rattle.pad_model.specs.Path.{IsLinkedPath, IsPath, NamesDiffer}
+use Rattle.pad_model.specs.Path.{IsPath}
 use Rattle.pad_model.specs.Best.{IsBetter, IsBest}
 use Rattle.pad_model.specs.Choice.{first_choice}
 use Rattle.pad_list.proofs.CallerLemmas.{contains_none}
 use Rattle.pad_model.proofs.CallerLemmas.{never_better_itself}
-use Rattle.pad_checkpoint.specs.Links.{AreLinks}
 use Rattle.pad_branch.specs.declared.held.Held.{Held}
 use Rattle.pad_branch.specs.Held.{mark_of, marks}
-use Rattle.pad_branch.specs.Pathless.{KnowsPathless, AreFound}
+use Rattle.pad_branch.specs.Pathless.{AreFound}
 use Rattle.pad_branch.specs.Branch.{State, IsTrunk}
 use Rattle.pad_chain.specs.State.{View, held_of}
 use Rattle.pad_chain.specs.Tie.{IsChosen, StandsFor}

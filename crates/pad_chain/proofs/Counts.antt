@@ -1,10 +1,10 @@
 -- The counts of a graph that stands for the links of messages are those of the messages.
-use Rattle.std.proofs.Common.{◌≡◌, ◌≢◌, ◌↔◌, ℕ, zero, suc, ◌+◌, ◌-◌, ◌<◌, ◌≤◌, ◌⊎◌, inl, inr, List, [], ◌∷◌, ◌++◌, length, map, Contains, refl, sym, ap, ◌∙◌, subst, arith, length-append}
+use Rattle.std.proofs.Common.{◌≡◌, ◌≢◌, ℕ, ◌+◌, ◌-◌, ◌<◌, List, [], ◌∷◌, ◌++◌, length, map, Contains, refl, sym, ap, ◌∙◌, subst, arith, length-append}
 use Rattle.std.proofs.lemmas.List.{length-map}
 use Rattle.pad_text.specs.declared.name.Name.{Name}
 use Rattle.pad_message.specs.declared.message.Message.{Message}
 use Rattle.pad_message.specs.Message.{name_of}
-use Rattle.pad_graph.specs.Chain.{Link, top, IsChain, GoesThrough, IsLinkedName, IsAddedName, IsWaitingName}
+use Rattle.pad_graph.specs.Chain.{Link, top, IsChain, GoesThrough, IsLinkedName, IsWaitingName}
 use Rattle.pad_list.specs.Number.{NoRepeat as Once, IsNumberOf as IsCountOf}
 use Rattle.pad_graph.specs.State.{State}
 use Rattle.pad_graph.specs.Graph.{Stands, IsKept as IsKeptIn}
@@ -13,8 +13,8 @@ use Rattle.pad_model.specs.Path.{last_name, IsLinkedPath, IsLinked, NamesDiffer}
 use Rattle.pad_list.specs.Number.{NoRepeat, IsNumberOf}
 use Rattle.pad_model.specs.Choice.{RunsThrough}
 use Rattle.pad_model.specs.Count.{IsKnown, IsWaiting, IsKept}
-use Rattle.pad_list.proofs.CallerLemmas.{contains_none, number_by_key, number_listed, number_same, number_without, contains_map, mapped_from}
-use Rattle.pad_model.proofs.CallerLemmas.{linked_unique, linked_below}
+use Rattle.pad_list.proofs.CallerLemmas.{number_by_key, number_listed, number_same, number_without, contains_map, mapped_from}
+use Rattle.pad_model.proofs.CallerLemmas.{linked_unique}
 use Rattle.pad_checkpoint.specs.Links.{link_of, names_of, AreLinks}
 use Rattle.pad_checkpoint.proofs.CallerLemmas.{top_names, chain_of, path_of, through_names, through_paths}
 

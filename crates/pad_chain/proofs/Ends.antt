@@ -1,18 +1,17 @@
 -- Where the branch ends.
 use Rattle.std.specs.Prelude.{IsTrue, ◌%◌}
-use Rattle.std.proofs.Common.{◌≡◌, ◌↔◌, ℕ, ◌+◌, Bool, List, [], ◌∷◌, ◌++◌, length, reverse, refl, sym, ap, ◌∙◌, subst, arith, length-append}
+use Rattle.std.proofs.Common.{◌≡◌, ◌↔◌, ℕ, ◌+◌, Bool, List, [], ◌∷◌, ◌++◌, length, reverse, sym, ap, ◌∙◌, subst, arith, length-append}
 use Rattle.std.proofs.lemmas.List.{length-reverse}
 use Rattle.pad_message.specs.declared.message.Message.{Message}
 use Rattle.pad_model.specs.declared.base.Base.{Base}
-use Rattle.pad_model.specs.Path.{last_name, text}
+use Rattle.pad_model.specs.Path.{text}
 use Rattle.pad_model.specs.Choice.{Choice}
-use Rattle.pad_checkpoint.specs.declared.place.Place.{Place}
 use Rattle.pad_checkpoint.specs.Place.{place_of}
 use Rattle.pad_branch.specs.declared.tip.Tip.{Tip}
 use Rattle.pad_branch.specs.declared.undo.Undo.{Undo}
 use Rattle.pad_branch.specs.Tip.{IsTip, tip_after}
 use Rattle.pad_branch.specs.Undo.{AreUndos}
-use Rattle.pad_branch.specs.Branch.{State, IsTrunk, tip_of, height_of}
+use Rattle.pad_branch.specs.Branch.{tip_of, height_of}
 use Rattle.pad_chain.specs.State.{View}
 use Rattle.pad_chain.specs.Tie.{StandsFor}
 

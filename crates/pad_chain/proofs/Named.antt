@@ -1,11 +1,9 @@
 -- A patch that fits was made for the text.
-use Rattle.std.proofs.Common.{◌≡◌, ◌≢◌, ℕ, ◌⊎◌, inl, inr, List, ◌∷◌, ◌++◌, sym, ◌∙◌}
+use Rattle.std.proofs.Common.{◌≡◌, ◌≢◌, ℕ, ◌⊎◌, inl, inr, List, ◌∷◌, sym, ◌∙◌}
 use Rattle.pad_text.specs.Hash.{document_hash}
 use Rattle.pad_patch.specs.declared.patch.Patch.{Patch}
 use Rattle.pad_patch.specs.declared.misfit.Misfit.TheVariants.{BeforeHash}
 use Rattle.pad_patch.specs.Misfit.{Fits}
-use Rattle.pad_message.specs.declared.message.Message.{Message}
-use Rattle.pad_model.specs.declared.base.Base.{Base}
 use Rattle.pad_model.specs.Path.{text, EachSound}
 use Rattle.pad_model.proofs.CallerLemmas.{sound_below}
 use Rattle.pad_chain.specs.Laws.{NamedTextsAreMet}

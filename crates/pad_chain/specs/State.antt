@@ -1,5 +1,5 @@
 -- What contracts see of a chain.
-use Rattle.std.specs.Prelude.{ℕ, List, Bool, Option}
+use Rattle.std.specs.Prelude.{List, Bool, Option}
 use Rattle.std.specs.Map.{lookup}
 use Rattle.std.specs.BTreeMap.{is_at}
 use Rattle.pad_text.specs.declared.name.Name.{Name}

@@ -1,6 +1,5 @@
-use Rattle.std.proofs.Common.{◌≡◌, [], reverse, sym, ap, ◌∙◌, subst}
+use Rattle.std.proofs.Common.{[], reverse, sym, ap, ◌∙◌, subst}
 use Rattle.pad_text.specs.declared.name.Name.{Name}
-use Rattle.pad_text.specs.Hash.{document_hash}
 use Rattle.pad_graph.specs.State as graph
 use Rattle.pad_graph.specs.Graph.{Stands}
 use Rattle.pad_chain.proofs.Begun.{begun_stands, same_branch}

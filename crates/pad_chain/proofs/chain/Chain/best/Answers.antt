@@ -1,6 +1,5 @@
-use Rattle.std.proofs.Common.{◌≡◌, sym, ap, ◌∙◌, subst}
+use Rattle.std.proofs.Common.{ap, ◌∙◌}
 use Rattle.pad_branch.specs.Branch.{tip_of, height_of}
-use Rattle.pad_checkpoint.specs.declared.place.Place.{Place}
 use Rattle.pad_chain.proofs.Ends.{end_place}
 use Rattle.pad_chain.specs.State.{View}
 use Rattle.pad_chain.proofs.chain.Chain.best.Goals as goal

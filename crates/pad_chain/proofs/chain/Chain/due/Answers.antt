@@ -1,4 +1,4 @@
-use Rattle.std.proofs.Common.{◌≡◌, ap, ◌∙◌}
+use Rattle.std.proofs.Common.{ap, ◌∙◌}
 use Rattle.pad_branch.specs.declared.tip.Tip.{Tip}
 use Rattle.pad_branch.specs.Branch.{tip_of}
 use Rattle.pad_chain.specs.State.{View}

@@ -1,4 +1,4 @@
-use Rattle.std.proofs.Common.{◌≡◌, ap, ◌∙◌}
+use Rattle.std.proofs.Common.{ap, ◌∙◌}
 use Rattle.pad_text.specs.Hash.{document_hash}
 use Rattle.pad_chain.specs.State.{View}
 use Rattle.pad_chain.proofs.Ends.{end_text}

@@ -1,5 +1,5 @@
-use Rattle.std.proofs.Common.{◌≡◌, sym, ap, ◌∙◌, subst}
-use Rattle.pad_branch.specs.Branch.{tip_of, height_of}
+use Rattle.std.proofs.Common.{ap, ◌∙◌}
+use Rattle.pad_branch.specs.Branch.{tip_of}
 use Rattle.pad_branch.specs.declared.tip.Tip.{Tip}
 use Rattle.pad_chain.proofs.Ends.{end_tip}
 use Rattle.pad_chain.specs.State.{View}

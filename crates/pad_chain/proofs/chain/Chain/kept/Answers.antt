@@ -1,4 +1,4 @@
-use Rattle.std.proofs.Common.{◌≡◌, sym, ap, ◌∙◌, subst}
+use Rattle.std.proofs.Common.{ap, ◌∙◌}
 use Rattle.pad_chain.proofs.Questions.{kept_of}
 use Rattle.pad_chain.specs.State.{View}
 use Rattle.pad_chain.proofs.chain.Chain.kept.Goals as goal

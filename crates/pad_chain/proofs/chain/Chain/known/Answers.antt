@@ -1,4 +1,4 @@
-use Rattle.std.proofs.Common.{◌≡◌, sym, ap, ◌∙◌, subst}
+use Rattle.std.proofs.Common.{sym, ap, ◌∙◌, subst}
 use Rattle.pad_list.specs.Number.{IsNumberOf}
 use Rattle.pad_model.specs.Count.{IsKnown}
 use Rattle.pad_chain.proofs.Questions.{known_of}
