@@ -227,18 +227,18 @@ fn history_from(alloc: Global, elements: &[Value]) -> Result<Option<Reply>, Allo
     if !is_zero(zero) || !is_string(word, "HISTORY") {
         return Ok(None);
     }
-    match (
+    let (Some(keeper), Some(channel), Some(index), Some(sender)) = (
         keeper_from(keeper),
         channel_from(channel),
         count_from(index),
         id_from(sender),
-        wire_from(alloc, content)?,
-    ) {
-        (Some(keeper), Some(channel), Some(index), Some(sender), Some(content)) => {
-            Ok(Some(Reply::History(keeper, channel, index, sender, content)))
-        }
-        _ => Ok(None),
-    }
+    ) else {
+        return Ok(None);
+    };
+    let Some(content) = wire_from(alloc, content)? else {
+        return Ok(None);
+    };
+    Ok(Some(Reply::History(keeper, channel, index, sender, content)))
 }
 
 /// `[0,keeper,"ENTRY",chan,index,moment,id,content]`
@@ -255,19 +255,19 @@ fn entry_from(alloc: Global, elements: &[Value]) -> Result<Option<Reply>, AllocE
     if !is_zero(zero) || !is_string(word, "ENTRY") {
         return Ok(None);
     }
-    match (
+    let (Some(keeper), Some(channel), Some(index), Some(moment), Some(sender)) = (
         keeper_from(keeper),
         channel_from(channel),
         count_from(index),
         moment_from(moment),
         id_from(sender),
-        wire_from(alloc, content)?,
-    ) {
-        (Some(keeper), Some(channel), Some(index), Some(moment), Some(sender), Some(content)) => {
-            Ok(Some(Reply::Entry(keeper, channel, index, moment, sender, content)))
-        }
-        _ => Ok(None),
-    }
+    ) else {
+        return Ok(None);
+    };
+    let Some(content) = wire_from(alloc, content)? else {
+        return Ok(None);
+    };
+    Ok(Some(Reply::Entry(keeper, channel, index, moment, sender, content)))
 }
 
 /// `[0,keeper,"HISTORY_END",chan,total]`
