@@ -1,13 +1,15 @@
 -- How the root moves.
-use Rattle.std.proofs.Common.{◌≡◌, ℕ, List, [], ◌∷◌, ◌++◌, Option, Some, None, drop, Bool, true, false, refl, sym, ap, ◌∙◌, subst, append_assoc}
+use Rattle.std.proofs.Common.{◌≡◌, ℕ, List, [], ◌∷◌, ◌++◌, length, Option, Some, None, drop, Bool, true, false, refl, sym, ap, ◌∙◌, subst, append_assoc}
 use Rattle.std.specs.Prelude.{if◌then◌else◌}
 use Rattle.pad_message.specs.Kind.{is_checkpoint}
 use Rattle.pad_text.specs.declared.name.Name.{Name}
 use Rattle.pad_message.specs.declared.message.Message.{Message}
 use Rattle.pad_graph.specs.Chain.{Link, top, IsChain, GoesThrough, IsKeptName, IsGoneName}
 use Rattle.pad_list.specs.Number.{IsNumberOf}
-use Rattle.pad_graph.specs.State.{State}
-use Rattle.pad_graph.specs.Graph.{Stands, AreDropped, IsDropped}
+use Rattle.pad_graph.specs.State.{State, standing}
+use Rattle.pad_graph.specs.declared.standing.Standing.{Standing}
+use Rattle.pad_graph.specs.declared.standing.Standing.TheVariants.{Unknown, Waiting, Linked, Gone}
+use Rattle.pad_graph.specs.Graph.{Stands, IsNewName, IsStanding, AreDropped, IsDropped}
 use Rattle.pad_graph.specs.Laws.{ChainsAreOne}
 use Rattle.pad_model.specs.declared.base.Base.{Base}
 use Rattle.pad_model.specs.Path.{IsLinkedPath}
@@ -21,7 +23,7 @@ use Rattle.pad_checkpoint.specs.Cut.{last_but_one}
 use Rattle.pad_checkpoint.specs.Links.{names_of}
 use Rattle.pad_checkpoint.specs.Settled.{IsRooted, IsSettled}
 use Rattle.pad_checkpoint.proofs.CutLemmas.{higher_is, higher_none, higher_some}
-use Rattle.pad_checkpoint.proofs.LinkLemmas.{top_names, chain_of}
+use Rattle.pad_checkpoint.proofs.LinkLemmas.{top_names, chain_of, through_names}
 
 -- nothing is dropped where the root stays
 none_dropped : ChainsAreOne → (state : State) (base : Name) (links : List Link) (names : List Name) → Stands state base links names → IsNumberOf (IsDropped base links names names) 0
@@ -76,6 +78,21 @@ module _ (b : Base) (R root above : List Message) (links : List Link) (place : P
 
     is_top : top b.name (names_of next) ≡ mark.place.name
     is_top = top_names b next ∙ ap (λ (p : Place). p.name) (sym at_next)
+
+    -- the graph knows the mark's message as linked through the root
+    pub is_linked : ChainsAreOne → ((height : ℕ) → standing state mark.place.name ≡ Linked height → ⊥) → ⊥
+    is_linked one none = go (standing state mark.place.name) refl (r.stands.standings mark.place.name)
+      where
+        not_new : (names : List Name) → IsChain b.name links names → top b.name names ≡ mark.place.name → IsNewName b.name links mark.place.name → ⊥
+        not_new [] c e fresh = fresh.0 (sym e)
+        not_new (name ∷ names) c e fresh = fresh.1 (record { name = name; parent = top b.name names }, c.0, e)
+
+        go : (how : Standing) → standing state mark.place.name ≡ how → IsStanding b.name links (names_of root) mark.place.name how → ⊥
+        go Unknown e fresh = not_new (names_of next) chain is_top fresh
+        go Waiting e waits = waits.1 (length (names_of next)) (names_of next, chain, is_top, refl)
+        go (Linked height) e kept = none height e
+        go (Gone height) e (names, other, is, size, out) =
+            out (subst (GoesThrough (names_of root)) (one b.name links (names_of next) names r.stands.differ chain other (is_top ∙ sym is)) (through_names root next (cut above, higher_is b root above)))
 
     pub moves : ((base : Name) (ls : List Link) (below names : List Name) → Stands state base ls below → IsChain base ls names → top base names ≡ mark.place.name → Stands new base ls names)
         → ((base : Name) (ls : List Link) (below names : List Name) → Stands state base ls below → IsChain base ls names → top base names ≡ mark.place.name → AreDropped base ls below names new.dropped)

@@ -1,6 +1,6 @@
 //! The cut of a path: its last but one checkpoint.
 
-ghost use Rattle.std.specs.Prelude.{◌≡◌, ◌≤◌, ◌<◌, List, [], ◌∷◌, ◌++◌, length, take, slice_get, Some, MatchOption, IfSome, Contains};
+ghost use Rattle.std.specs.Prelude.{◌≡◌, ◌≤◌, ◌<◌, List, [], ◌∷◌, ◌++◌, length, take, slice_get, Some, MatchOption};
 ghost use Rattle.pad_message.specs.declared.message.Message.{Message};
 ghost use Rattle.pad_model.specs.declared.base.Base.{Base};
 ghost use Rattle.pad_model.specs.Choice.{cut, higher};
@@ -27,8 +27,7 @@ fn last_checkpoint(marks: &[PathMark], end: usize) -> Option<usize>
 
 /// The last but one checkpoint of a path, where it has two. It reads the marks from the end back to that one.
 pub(crate) fn last_but_one(marks: &[PathMark]) -> Option<PathMark>
-    ensures is { result ≡ last_but_one marks.now }
-    ensures among { IfSome result (Contains marks.now) }
+    ensures { result ≡ last_but_one marks.now }
 {
     let Some(last) = last_checkpoint(marks, marks.len()) else {
         return None;

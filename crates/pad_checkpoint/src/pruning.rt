@@ -1,9 +1,9 @@
 //! The kept root, and the messages that overtook.
 
-ghost use Rattle.std.specs.Prelude.{◌≡◌, ℕ, ◌+◌, ◌<◌, ◌^◌, ◌∷◌, ◌++◌, List, All, IfOk, OnErr, count_by};
+ghost use Rattle.std.specs.Prelude.{◌≡◌, ℕ, ◌+◌, ◌-◌, ◌^◌, ◌∷◌, ◌++◌, List, IfOk, OnErr, count_by, min};
 ghost use Rattle.pad_message.specs.declared.message.Message.{Message};
 ghost use Rattle.pad_graph.specs.Chain.{Link};
-ghost use Rattle.pad_graph.specs.State.{state_of, standing, IsHeld};
+ghost use Rattle.pad_graph.specs.State.{state_of};
 ghost use Rattle.pad_model.specs.declared.base.Base.{Base};
 ghost use Rattle.pad_model.specs.Path.{NamesDiffer};
 ghost use Rattle.pad_list.specs.Number.{IsNumberOf};
@@ -16,7 +16,7 @@ ghost use Rattle.pad_checkpoint.specs.Settled.{IsRooted, IsSettled};
 use crate::cuts::last_but_one;
 use crate::marks::Marks;
 use crate::place::Place;
-use pad_graph::{Graph, Linking, Linkings, chains_are_one};
+use pad_graph::{Graph, Linking, Linkings, Standing, chains_are_one};
 use std::alloc::{AllocError, Global};
 use std::cmp::Ordering;
 
@@ -73,28 +73,28 @@ impl Pruning {
         self.overtaken
     }
 
-    /// Counts those of the messages that became linked below the root which better the best chain by height and name.
+    /// Counts those of the messages that became linked below the root which better the best chain by height and name. The count
+    /// stops at the greatest number of 64 bits.
     pub fn count_below(&mut self, below: &Linkings, best: &Place)
-        requires { self.old.overtaken + count_by (betters best.now) below.now < 2 ^ 64 }
-        ensures counted { self.new ≡ record self.old { overtaken = self.old.overtaken + count_by (betters best.now) below.now } }
+        ensures counted { self.new ≡ record self.old { overtaken = min (self.old.overtaken + count_by (betters best.now) below.now) (2 ^ 64 - 1) } }
         ensures overtook { (base : Base) (received : List Message) (message : Message) (choice : Choice) (links : List Link) → NamesDiffer (message ∷ received) → AreLinks base received links
             → AreBelow base links message choice.root below.now → best.now ≡ place_of base choice.chosen
-            → (more : ℕ) × IsNumberOf (Overtakes base received message choice) more × (self.new.overtaken ≡ self.old.overtaken + more) }
+            → (more : ℕ) × IsNumberOf (Overtakes base received message choice) more × (self.new.overtaken ≡ min (self.old.overtaken + more) (2 ^ 64 - 1)) }
     {
         let more = count_better(below.as_slice(), best);
-        self.overtaken += more as u64;
+        self.overtaken = self.overtaken.saturating_add(more as u64);
     }
 
     /// Moves the root up to the cut of the best chain, where that is higher, and drops what is not linked through it. The marks
     /// are those of the best chain above the root. It answers how many messages were dropped, and reads the marks from the far end back
-    /// to the last but one checkpoint. Root and graph are unchanged where there is no memory.
+    /// to the last but one checkpoint. Nothing moves if the graph does not know that one as linked through the root. Root and graph are
+    /// unchanged where there is no memory.
     pub fn settle(
         &mut self,
         alloc: Global,
         graph: &mut Graph,
         path: &Marks,
     ) -> Result<u64, AllocError>
-        requires { All (λ mark. IsHeld (standing (state_of graph.old) mark.place.name)) path.now }
         ensures settled { IfOk result (λ many. (base : Base) (received root above : List Message) (links : List Link) → IsRooted base received root above links self.old.root path.now (state_of graph.old)
             → IsSettled base links root (higher root (cut (above ++ root))) self.new.root (state_of graph.new) many) }
         ensures overtaken { self.new.overtaken ≡ self.old.overtaken }
@@ -103,6 +103,9 @@ impl Pruning {
     {
         chains_are_one();
         let Some(mark) = last_but_one(path.as_slice()) else {
+            return Ok(0);
+        };
+        let Standing::Linked(_) = graph.standing(&mark.place.name) else {
             return Ok(0);
         };
         let dropped = graph.keep_from(alloc, &mark.place.name)?;

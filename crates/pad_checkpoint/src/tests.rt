@@ -41,23 +41,6 @@ fn chain(alloc: Global, count: u8) -> Result<Graph, AddRefused> {
     Ok(graph)
 }
 
-/// Settles the path, where each message on it is linked through the root.
-fn settle(
-    alloc: Global,
-    pruning: &mut Pruning,
-    graph: &mut Graph,
-    path: &Marks,
-) -> Result<Option<u64>, AllocError> {
-    for mark in path.as_slice() {
-        match graph.standing(&mark.place.name) {
-            Standing::Linked(_) => {}
-            _ => return Ok(None),
-        }
-    }
-    let dropped = pruning.settle(alloc, graph, path)?;
-    Ok(Some(dropped))
-}
-
 #[test]
 fn the_root_moves_up_to_the_last_but_one_checkpoint(rt: HostRuntime) -> Result<(), Fail> {
     let alloc = rt.alloc();
@@ -67,10 +50,10 @@ fn the_root_moves_up_to_the_last_but_one_checkpoint(rt: HostRuntime) -> Result<(
     let mut graph = chain(alloc, 5)?;
     let mut pruning = Pruning::new(base);
     let one = marks(alloc, 5, &[3])?;
-    assert_eq!(rt; settle(alloc, &mut pruning, &mut graph, &one)?, Some(0));
+    assert_eq!(rt; pruning.settle(alloc, &mut graph, &one)?, 0);
     assert_eq!(rt; pruning.root(), base);
     let two = marks(alloc, 5, &[3, 5])?;
-    assert_eq!(rt; settle(alloc, &mut pruning, &mut graph, &two)?, Some(2));
+    assert_eq!(rt; pruning.settle(alloc, &mut graph, &two)?, 2);
     assert_eq!(rt; pruning.root(), place(3, 3));
     assert_eq!(rt; graph.standing(&Name([2; 32])), Standing::Gone(2));
     assert_eq!(rt; pruning.overtaken(), 0);
