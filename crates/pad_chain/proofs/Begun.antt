@@ -1,7 +1,7 @@
 -- A chain to which no message came stands for its base alone.
-use Rattle.std.proofs.Common.{◌≡◌, ℕ, List, [], ◌∷◌, Bool, true, false, Some, None, refl, sym, ap, ◌∙◌, subst}
+use Rattle.std.proofs.Common.{◌≡◌, ℕ, List, [], ◌∷◌, Bool, true, false, Some, None, IfSome, refl, sym, ap, ◌∙◌, subst}
 use Rattle.std.specs.Map.{lookup}
-use Rattle.std.specs.BTreeMap.{is_at}
+use Rattle.std.specs.BTreeMap.{BTreeMap, get, is_at}
 use Rattle.pad_text.specs.declared.name.Name.{Name}
 use Rattle.pad_text.specs.Hash.{document_hash}
 use Rattle.pad_message.specs.declared.message.Message.{Message}
@@ -14,7 +14,7 @@ use Rattle.pad_model.specs.Choice.{first_choice}
 use Rattle.pad_list.proofs.CallerLemmas.{contains_none}
 use Rattle.pad_model.proofs.CallerLemmas.{never_better_itself}
 use Rattle.pad_branch.specs.declared.held.Held.{Held}
-use Rattle.pad_branch.specs.Held.{mark_of, marks}
+use Rattle.pad_branch.specs.Held.{IsHeldAs, mark_of, marks}
 use Rattle.pad_branch.specs.Pathless.{AreFound}
 use Rattle.pad_branch.specs.Branch.{State, IsTrunk}
 use Rattle.pad_chain.specs.State.{View, held_of}
@@ -73,3 +73,7 @@ module _ (chain : View) (b : Base) (none : chain.messages ≡ []) where
 
 pub same_branch : (b : Base) (name : Name) (units : List ℕ) (interval : ℕ) → b.name ≡ name → b.text ≡ units → b.interval ≡ interval → begun_branch name units interval ≡ begun_branch b.name b.text b.interval
 same_branch b name units interval n t i = sym (λ j. begun_branch (n j) (t j) (i j))
+
+-- nothing is held in a table without entries
+pub none_held : (table : BTreeMap Name Held) → table.entries ≡ [] → (name : Name) → IfSome (get graph.name_cmp table name) (IsHeldAs name)
+none_held table none name = subst (λ o. IfSome o (IsHeldAs name)) (sym (ap (λ (entries : List (Name × Held)). lookup (is_at (graph.name_cmp name)) entries) none)) tt

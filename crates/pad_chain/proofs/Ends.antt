@@ -15,7 +15,7 @@ use Rattle.pad_branch.specs.Branch.{tip_of, height_of}
 use Rattle.pad_chain.specs.State.{View}
 use Rattle.pad_chain.specs.Tie.{StandsFor}
 
-many_undos : (b : Base) (below chosen : List Message) (undos : List Undo) → AreUndos b below chosen undos → length undos ≡ length chosen
+pub many_undos : (b : Base) (below chosen : List Message) (undos : List Undo) → AreUndos b below chosen undos → length undos ≡ length chosen
 many_undos b below [] undos h = ap length h
 many_undos b below (m ∷ chosen) undos (undo, rest, e, takes, more) = omega (arith, ap length e, many_undos b below chosen rest more)
 

@@ -13,3 +13,6 @@ name_dec x y = go (is_eq (name_cmp x y)) refl
     go : (t : Bool) → is_eq (name_cmp x y) ≡ t → (x ≡ y) ⊎ (x ≢ y)
     go true e = inl (name_same x y e)
     go false e = inr (λ same. true≢false (sym (sym (texts_ties x.0 y.0) ∙ (bytes_decides x.0 y.0).1 (ap (λ n. n.0) same)) ∙ e))
+
+pub name_equal : (x y : Name) → x ≡ y → is_eq (name_cmp x y) ≡ true
+name_equal x y e = sym (texts_ties x.0 y.0) ∙ (bytes_decides x.0 y.0).1 (ap (λ n. n.0) e)

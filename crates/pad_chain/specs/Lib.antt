@@ -1,4 +1,6 @@
 pub mod State
 pub mod Moved
 pub mod Tie
+pub mod Receive
+pub mod Inside
 pub mod Laws

@@ -1,5 +1,7 @@
 //! The chain: what came, and the best of it.
 
+mod receiving;
+
 ghost use Rattle.std.specs.Prelude.{◌≡◌, ◌≤◌, ◌+◌, ◌%◌, ◌^◌, ◌<◌, ◌↔◌, ℕ, List, [], true, false, length, IsTrue, IfOk, IfErr, OnOk};
 ghost use Rattle.pad_text.specs.declared.name.Name.{Name};
 ghost use Rattle.pad_text.specs.Hash.{document_hash};
@@ -48,12 +50,18 @@ pub struct Chain<S: UnitStore> {
 }
 
 impl<S: UnitStore> Model for Chain<S> {
-    ghost use Rattle.std.specs.Prelude.{reverse};
+    ghost use Rattle.std.specs.Prelude.{reverse, IfSome};
+    ghost use Rattle.std.specs.BTreeMap.{get};
+    ghost use Rattle.pad_text.specs.declared.name.Name.{Name};
+    ghost use Rattle.pad_graph.specs.State.{name_cmp};
+    ghost use Rattle.pad_branch.specs.Held.{IsHeldAs};
     ghost use Rattle.pad_chain.specs.State.{View};
 
     ghost Value = { View };
 
     ghost view = { λ chain. record { graph = chain.graph; pruning = chain.pruning; messages = chain.messages.entries; branch = chain.branch; found = reverse chain.found.items; whole = chain.whole } };
+
+    ghost invariant = { λ chain. (name : Name) → IfSome (get name_cmp chain.messages name) (IsHeldAs name) };
 }
 
 /// Lends the text that a message inserts which can be a base.

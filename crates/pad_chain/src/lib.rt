@@ -4,8 +4,9 @@
 //! that of the best chain.
 //!
 //! ```rust
-//! let chain = Chain::<VecUnits>::new(alloc)?;               // from the first base on
+//! let mut chain = Chain::<VecUnits>::new(alloc)?;           // from the first base on
 //! let chain = Chain::<VecUnits>::adopt(alloc, &message)?;   // from a checkpoint on
+//! let moved = chain.receive(alloc, message, &mut steps)?;   // what left the best chain, and what came onto it
 //! let (best, text) = (chain.best(), chain.text());
 //! ```
 #![tactic(auto)]
@@ -13,13 +14,18 @@
 mod adopt_refused;
 mod chain;
 mod laws;
+mod marks;
 mod moved;
+mod receive_refused;
+mod settling;
+mod tables;
 
 pub use adopt_refused::AdoptRefused;
 pub use chain::Chain;
 pub use laws::named_texts_are_met;
 pub use moved::{Moved, Moves};
 pub use pad_branch::Move;
+pub use receive_refused::ReceiveRefused;
 
 #[cfg(test)]
 mod tests;

@@ -1,7 +1,8 @@
-ghost use Rattle.std.specs.Prelude.{◌≡◌, List};
+ghost use Rattle.std.specs.Prelude.{◌≡◌, List, []};
 ghost use Rattle.pad_branch.specs.declared.moved.Move.{Move};
 
 use pad_branch::Move;
+use std::alloc::Global;
 use std::marker::Model;
 
 /// Messages that left the best chain, or that came onto it. Contracts see the list.
@@ -39,4 +40,17 @@ pub struct Moved {
     pub reverted: Moves,
     /// The messages that came onto it, the oldest first, each with its patch.
     pub applied: Moves,
+}
+
+impl Moved {
+    /// The chain stayed.
+    pub(crate) fn none(alloc: Global) -> Moved
+        ensures reverted { result.reverted ≡ [] }
+        ensures applied { result.applied ≡ [] }
+    {
+        Moved {
+            reverted: Moves::new(Vec::new(alloc)),
+            applied: Moves::new(Vec::new(alloc)),
+        }
+    }
 }

@@ -2,8 +2,11 @@ use Rattle.std.proofs.Common.{[], reverse, sym, ap, ◌∙◌, subst}
 use Rattle.pad_text.specs.declared.name.Name.{Name}
 use Rattle.pad_graph.specs.State as graph
 use Rattle.pad_graph.specs.Graph.{Stands}
-use Rattle.pad_chain.proofs.Begun.{begun_stands, same_branch}
+use Rattle.pad_chain.proofs.Begun.{begun_stands, none_held, same_branch}
 use Rattle.pad_chain.proofs.chain.Chain.begun.Goals as goal
+
+pub invariant_of-result : goal.invariant_of-result
+invariant_of-result g c = none_held c.new-3.result c.new-3.ensures.empty
 
 pub returns-clause-stands : goal.returns-clause-stands
 returns-clause-stands g c b n t i =

@@ -1,0 +1,73 @@
+use Rattle.std.proofs.Common.{reverse, Some, None, true, false, Result, Ok, Err, OnErr, refl, sym, ◌∙◌, subst}
+use Rattle.std.specs.BTreeMap.{get}
+use Rattle.pad_graph.specs.declared.added.Added.TheVariants.{Linked}
+use Rattle.pad_message.specs.Message.{name_of}
+use Rattle.pad_graph.specs.State.{name_cmp}
+use Rattle.pad_chain.specs.State.{View, held_of}
+use Rattle.pad_chain.specs.Inside.Tables.{IsPut}
+use Rattle.pad_chain.specs.Inside.Receiving.{IsJoining, Receives, Refuses}
+use Rattle.pad_chain.proofs.Arms.{put_held, marked_held}
+use Rattle.pad_chain.proofs.Adding.{adding_on, same_mark, refused_hold, refused_join}
+use Rattle.pad_chain.proofs.Received.{marked_received}
+use Rattle.pad_chain.proofs.chain.Chain.join.Goals as goal
+
+on_err : {A E : Type 0} {P : Type 0} (r : Result A E) → P → OnErr r P
+on_err (Ok x) h = tt
+on_err (Err e) h = h
+
+pub invariant_of-self-then-has_mark : goal.invariant_of-self-then-has_mark
+invariant_of-self-then-has_mark g c =
+    marked_held (get name_cmp c.hold_added.new.messages) (get name_cmp c.mark_all.new.messages) c.args.linkings.now c.mark_all.ensures
+    (put_held (get name_cmp c.self.inside.messages) (get name_cmp c.hold_added.new.messages) c.args.name c.args.message c.in_ok-hold_added.ensures.held c.requires.interval c.requires.named c.self.invariant)
+
+pub invariant_of-self-else-has_mark : goal.invariant_of-self-else-has_mark
+invariant_of-self-else-has_mark g c = put_held (get name_cmp c.self.inside.messages) (get name_cmp c.hold_added.new.messages) c.args.name c.args.message c.in_ok-hold_added.ensures.held c.requires.interval c.requires.named c.self.invariant
+
+pub returns-in_err-hold_added-clause-refused : goal.returns-in_err-hold_added-clause-refused
+returns-in_err-hold_added-clause-refused g c =
+    let i = c.self.inside in
+    let m = c.args.message in
+    let old : View = record { graph = i.graph; pruning = i.pruning; messages = i.messages.entries; branch = i.branch; found = reverse i.found.items; whole = i.whole } in
+    let new : View = record old { graph = c.hold_added.new.graph; messages = c.hold_added.new.messages.entries } in
+    on_err c.from_residual.result (subst (λ (v : View). Refuses v new m (Linked c.args.linkings.now)) c.self.view_is
+    (λ before b R choice a. refused_hold (record old { graph = before }) b R m choice old new (Linked c.args.linkings.now) a refl c.in_err-hold_added.ensures.undone c.in_err-hold_added.ensures.same refl refl refl refl))
+
+pub returns-then-has_mark-clause-received : goal.returns-then-has_mark-clause-received
+returns-then-has_mark-clause-received g c =
+    let i = c.self.inside in
+    let m = c.args.message in
+    let ls = c.args.linkings.now in
+    let old : View = record { graph = i.graph; pruning = i.pruning; messages = i.messages.entries; branch = i.branch; found = reverse i.found.items; whole = i.whole } in
+    let mid : View = record old { graph = c.hold_added.new.graph; messages = c.hold_added.new.messages.entries } in
+    let new : View = record mid { messages = c.mark_all.new.messages.entries } in
+    let put : IsPut (held_of old) (held_of mid) (name_of m) (Some (record { message = m; pathless = false })) = subst (λ n. IsPut (held_of old) (held_of mid) n (Some (record { message = m; pathless = false }))) c.requires.named c.in_ok-hold_added.ensures.held in
+    subst (λ (v : View). Receives v new m (Linked ls) c.none.result) c.self.view_is
+    (λ before b R choice d a.
+    let j : IsJoining (record old { graph = before }) mid b R m choice ls = record { adding = adding_on (record old { graph = before }) b R m choice old mid (Linked ls) c.in_ok-hold_added.ensures.graph a; differ = d; put = put; pruning = refl; branch = refl; found = refl; whole = refl } in
+    marked_received (record old { graph = before }) mid b R m choice ls j c.repeat_changes_no_choice.ensures c.best_through_its_root.ensures c.only_new_paths.ensures c.found_stays.ensures c.trunk_stays.ensures c.marks_pass.ensures
+    (same_mark (record old { graph = before }) b R m choice mid ls true j (sym c.if-has_mark.true ∙ c.has_mark.ensures)) new c.none.result c.mark_all.ensures refl refl refl refl refl c.none.ensures.reverted c.none.ensures.applied)
+
+pub returns-in-Ok-clause-received : goal.returns-in-Ok-clause-received
+returns-in-Ok-clause-received g c =
+    let i = c.self.inside in
+    let m = c.args.message in
+    let ls = c.args.linkings.now in
+    let old : View = record { graph = i.graph; pruning = i.pruning; messages = i.messages.entries; branch = i.branch; found = reverse i.found.items; whole = i.whole } in
+    let mid : View = record old { graph = c.hold_added.new.graph; messages = c.hold_added.new.messages.entries } in
+    let put : IsPut (held_of old) (held_of mid) (name_of m) (Some (record { message = m; pathless = false })) = subst (λ n. IsPut (held_of old) (held_of mid) n (Some (record { message = m; pathless = false }))) c.requires.named c.in_ok-hold_added.ensures.held in
+    subst (λ (v : View). Receives v c.take_on.new.self m (Linked ls) c.in-Ok.moved) c.self.view_is
+    (λ before b R choice d a.
+    let j : IsJoining (record old { graph = before }) mid b R m choice ls = record { adding = adding_on (record old { graph = before }) b R m choice old mid (Linked ls) c.in_ok-hold_added.ensures.graph a; differ = d; put = put; pruning = refl; branch = refl; found = refl; whole = refl } in
+    c.in-Ok.ensures.received (record old { graph = before }) b R m choice j (same_mark (record old { graph = before }) b R m choice mid ls false j (sym c.if-has_mark.false ∙ c.has_mark.ensures)))
+
+pub returns-in-Err-clause-refused : goal.returns-in-Err-clause-refused
+returns-in-Err-clause-refused g c =
+    let i = c.self.inside in
+    let m = c.args.message in
+    let ls = c.args.linkings.now in
+    let old : View = record { graph = i.graph; pruning = i.pruning; messages = i.messages.entries; branch = i.branch; found = reverse i.found.items; whole = i.whole } in
+    let mid : View = record old { graph = c.hold_added.new.graph; messages = c.hold_added.new.messages.entries } in
+    let put : IsPut (held_of old) (held_of mid) (name_of m) (Some (record { message = m; pathless = false })) = subst (λ n. IsPut (held_of old) (held_of mid) n (Some (record { message = m; pathless = false }))) c.requires.named c.in_ok-hold_added.ensures.held in
+    let removed = subst (λ n. IsPut (held_of c.take_on.new.self) (held_of c.take_back.new.self) n None) c.requires.named c.take_back.ensures.removed in
+    subst (λ (v : View). Refuses v c.take_back.new.self m (Linked ls)) c.self.view_is
+    (λ before b R choice a. refused_join (record old { graph = before }) b R m choice old mid c.take_on.new.self c.take_back.new.self ls a (record { message = m; pathless = false }) put c.in_ok-hold_added.ensures.graph c.in-Err.ensures.untouched c.take_back.ensures.undone removed c.take_back.ensures.rest refl refl refl refl)

@@ -1,0 +1,50 @@
+use Rattle.std.proofs.Common.{◌≡◌, ℕ, ◌-◌, List, ◌∷◌, ◌++◌, length, take, map, reverse, refl, sym, ap, ◌∙◌, subst}
+use Rattle.std.proofs.lemmas.List.{reverse-append}
+use Rattle.std.specs.BTreeMap.{get}
+use Rattle.pad_text.specs.declared.name.Name.{Name}
+use Rattle.pad_graph.specs.State.{name_cmp, state_of}
+use Rattle.pad_chain.specs.State.{View, held_of}
+use Rattle.pad_branch.specs.declared.undo.Undo.{Undo}
+use Rattle.pad_branch.specs.declared.moved.Move.{Move}
+use Rattle.pad_branch.specs.Undo.{undone_name}
+use Rattle.pad_branch.specs.Held.{messages_at}
+use Rattle.pad_branch.specs.Move.{move_back, move_on}
+use Rattle.pad_branch.specs.Branch.{State, IsTrunk, switched}
+use Rattle.pad_checkpoint.specs.Settled.{IsRooted}
+use Rattle.pad_checkpoint.specs.Links.{link_of}
+use Rattle.pad_chain.specs.Inside.Marks.{marks_from}
+use Rattle.pad_chain.specs.Inside.Receiving.{Switches}
+use Rattle.pad_chain.proofs.Arms.{fewer_held}
+use Rattle.pad_chain.proofs.Noting.{noted_held}
+use Rattle.pad_chain.proofs.Settled.{rooted}
+use Rattle.pad_chain.proofs.Received.{won_received}
+use Rattle.pad_chain.proofs.chain.Chain.switch.Goals as goal
+
+pub invariant_of-self-2 : goal.invariant_of-self-2
+invariant_of-self-2 g c =
+    noted_held (get name_cmp c.rise.new.messages) (get name_cmp c.note.new.messages) c.args.pathless (state_of c.settle.new.graph) c.note.ensures
+    (fewer_held (get name_cmp c.self.inside.messages) (get name_cmp c.rise.new.messages) c.rise.ensures.fewer c.self.invariant)
+
+pub returns-clause-received : goal.returns-clause-received
+returns-clause-received g c =
+    let i = c.self.inside in
+    let won = c.args.won in
+    let units : List ℕ = g.S.UnitStore.units won.text in
+    let come : List Undo = won.undos.items in
+    let br : State = i.branch.branch in
+    let here : c.reserve-2.new.self.branch ≡ br = c.in_ok-reserve-2.ensures.same in
+    let old : View = record { graph = i.graph; pruning = i.pruning; messages = i.messages.entries; branch = i.branch; found = reverse i.found.items; whole = i.whole } in
+    let new : View = record old { graph = c.settle.new.graph; pruning = c.settle.new.pruning; messages = c.note.new.messages.entries; branch = c.rise.new.branch; found = reverse c.add_found.new.found.items } in
+    let added : reverse c.add_found.new.found.items ≡ reverse c.args.found.items ++ reverse i.found.items =
+    ap reverse c.add_found.ensures ∙ reverse-append c.reserve-3.new.self.items c.args.found.items ∙ ap (λ (xs : List Name). reverse c.args.found.items ++ reverse xs) c.in_ok-reserve-3.ensures.items in
+    let switched_is : c.switch_to.new.self.branch ≡ switched br won.keep come units = c.switch_to.ensures.branch ∙ ap (λ (s : State). switched s won.keep come units) here in
+    let back : c.new.result ≡ map move_back (take (length br.undos - won.keep) (reverse br.undos)) = c.new.ensures ∙ c.switch_to.ensures.reverted ∙ ap (λ (xs : List Move). xs ++ map move_back (take (length c.reserve-2.new.self.branch.undos - won.keep) (reverse c.reserve-2.new.self.branch.undos))) (c.in_ok-reserve.ensures.items ∙ c.new-leaves.ensures.items) ∙ ap (λ (s : State). map move_back (take (length s.undos - won.keep) (reverse s.undos))) here in
+    let on : c.new-2.result ≡ map move_on (messages_at (held_of old) (map undone_name come)) = c.new-2.ensures ∙ c.in_ok-comes.ensures ∙ ap (λ (us : List Undo). map move_on (messages_at (held_of old) (map undone_name us))) c.as_slice.ensures.value in
+    subst (λ (v : View). Switches v new c.args.pathless (reverse c.args.found.items) won.keep come units (record { reverted = c.new.result; applied = c.new-2.result })) c.self.view_is
+    (λ before b R m choice linkings path out best is_won.
+    let marks_are = ap (λ (s : State). marks_from s.low (take won.keep s.undos ++ c.as_slice-2.result.now)) here ∙ ap (λ (us : List Undo). marks_from br.low (take won.keep br.undos ++ us)) c.as_slice-2.ensures.value in
+    let raised = c.in_ok-settle.ensures.raised b (m ∷ R) choice.root path (link_of m ∷ out.joining.adding.stood.links) (subst (λ ms. IsRooted b (m ∷ R) choice.root path (link_of m ∷ out.joining.adding.stood.links) i.pruning.root ms (state_of i.graph)) (sym marks_are) (rooted before old b R m choice linkings out.joining path won.keep come units (held_of old) is_won)) in
+    won_received before old b R m choice linkings out.joining out.ready c.args.pathless (reverse c.args.found.items ++ before.found) out.knows out.are new (record { reverted = c.new.result; applied = c.new-2.result }) refl (added ∙ ap (λ (xs : List Name). reverse c.args.found.items ++ xs) out.joining.found)
+    path best won.keep come units is_won (get name_cmp c.rise.new.messages) raised c.in_ok-settle.ensures.overtaken
+    (λ upper joined trunk at. c.rise.ensures.raised b (m ∷ R) choice.root upper joined (subst (IsTrunk b (m ∷ R) choice.root (upper ++ joined)) (sym switched_is) trunk) at)
+    c.note.ensures c.roots_rise_to_cuts_above.ensures c.known_above.ensures c.found_above.ensures back on)

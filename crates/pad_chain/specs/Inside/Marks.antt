@@ -1,0 +1,14 @@
+-- The marks of the messages of a branch, by their undos.
+use Rattle.std.specs.Prelude.{ℕ, ◌+◌, List, [], ◌∷◌}
+use Rattle.pad_message.specs.Kind.{is_checkpoint}
+use Rattle.pad_checkpoint.specs.declared.path_mark.PathMark.{PathMark}
+use Rattle.pad_branch.specs.declared.undo.Undo.{Undo}
+
+-- the mark of the message that the undo takes back, at this height
+abbrev pub mark_at : Undo → ℕ → PathMark
+mark_at undo height = record { place = record { name = undo.after.name; height = height }; checkpoint = is_checkpoint undo.kind }
+
+-- the marks of these, the oldest first, on one of the height `low`
+abbrev pub marks_from : ℕ → List Undo → List PathMark
+marks_from low [] = []
+marks_from low (undo ∷ undos) = mark_at undo (low + 1) ∷ marks_from (low + 1) undos

@@ -1,0 +1,100 @@
+-- What the steps stand on that a chain makes as a message comes.
+use Rattle.std.specs.Prelude.{◌≡◌, ◌≢◌, ℕ, List, [], ◌∷◌, ◌++◌, Bool, true, false, Some}
+use Rattle.std.specs.BTreeSet.{BTreeSet}
+use Rattle.pad_text.specs.declared.name.Name.{Name}
+use Rattle.pad_message.specs.declared.message.Message.{Message}
+use Rattle.pad_message.specs.Message.{name_of}
+use Rattle.pad_graph.specs.declared.linking.Linking.{Linking}
+use Rattle.pad_graph.specs.declared.added.Added.{Added}
+use Rattle.pad_graph.specs.declared.added.Added.TheVariants.{Linked}
+use Rattle.pad_graph.specs.Added.{IsAdded, links_after}
+use Rattle.pad_graph.specs.Chain.{Link}
+use Rattle.pad_graph.specs.State as graph
+use Rattle.pad_graph.specs.Graph.{Stands, AreDropped}
+use Rattle.pad_model.specs.declared.base.Base.{Base}
+use Rattle.pad_model.specs.Path.{NamesDiffer}
+use Rattle.pad_model.specs.Choice.{cut, Choice, IsBestThrough}
+use Rattle.pad_checkpoint.specs.declared.place.Place.{Place}
+use Rattle.pad_checkpoint.specs.Place.{place_of}
+use Rattle.pad_checkpoint.specs.Links.{link_of, names_of}
+use Rattle.pad_branch.specs.declared.undo.Undo.{Undo}
+use Rattle.pad_branch.specs.Held.{marks}
+use Rattle.pad_branch.specs.Pathless.{KnowsPathless, AreFound, pathless_in}
+use Rattle.pad_branch.specs.Choice.{IsReady}
+use Rattle.pad_branch.specs.Branch.{IsWon}
+use Rattle.pad_chain.specs.declared.moved.Moved.{Moved}
+use Rattle.pad_chain.specs.State.{View, held_of}
+use Rattle.pad_chain.specs.Receive.{IsReceived}
+use Rattle.pad_chain.specs.Tie.{StandsFor}
+use Rattle.pad_chain.specs.Inside.Tables.{IsPut}
+
+-- what comes onto the root as it rises to the cut of a path above it: nothing in a chain that never truncates
+abbrev pub rising : Bool → List Message → List Message
+rising true path = []
+rising false path = cut path
+
+-- a chain that stood for the messages received, and to whose graph a message was added since
+pub record IsAdding (before now : View) (base : Base) (received : List Message) (message : Message) (choice : Choice) (added : Added) : Type 0 where
+  pub stood : StandsFor before base received choice
+  pub told : IsAdded base.name stood.links (names_of choice.root) (link_of message) added
+  pub stands : Stands (graph.state_of now.graph) base.name (links_after (link_of message) stood.links added) (names_of choice.root)
+
+-- and which holds the message; these became linked with it
+pub record IsJoining (before now : View) (base : Base) (received : List Message) (message : Message) (choice : Choice) (linkings : List Linking) : Type 0 where
+  pub adding : IsAdding before now base received message choice (Linked linkings)
+  pub differ : NamesDiffer (message ∷ received)
+  pub put : IsPut (held_of before) (held_of now) (name_of message) (Some (record { message = message; pathless = false }))
+  pub pruning : now.pruning ≡ before.pruning
+  pub branch : now.branch ≡ before.branch
+  pub found : now.found ≡ before.found
+  pub whole : now.whole ≡ before.whole
+
+-- the root rose by these messages, and the graph with it; it lends what was dropped, if the root moved
+pub record IsRaised (base : Base) (links : List Link) (root risen : List Message) (place : Place) (state : graph.State) : Type 0 where
+  pub at_root : place ≡ place_of base (risen ++ root)
+  pub stands : Stands state base.name links (names_of (risen ++ root))
+  pub lent : risen ≢ [] → AreDropped base.name links (names_of root) (names_of (risen ++ root)) state.dropped
+
+-- the chain is as it was, but for how much memory it has
+pub record IsUntouched (old new : View) : Type 0 where
+  pub graph_is : graph.state_of new.graph ≡ graph.state_of old.graph
+  pub messages : new.messages ≡ old.messages
+  pub pruning : new.pruning ≡ old.pruning
+  pub branch : new.branch.branch ≡ old.branch.branch
+  pub found : new.found ≡ old.found
+  pub whole : new.whole ≡ old.whole
+
+-- what was found out as paths were tested: these names are of messages in which no path ends, and these were found now
+pub record IsFoundOut (before now : View) (base : Base) (received : List Message) (message : Message) (choice : Choice) (linkings : List Linking) (names : BTreeSet Name) (found : List Name) : Type 0 where
+  pub joining : IsJoining before now base received message choice linkings
+  pub ready : IsReady base received message choice.root joining.adding.stood.above now.branch.branch (held_of now) (graph.state_of now.graph) before.found linkings
+  pub knows : KnowsPathless base (message ∷ received) choice.root (pathless_in (held_of now) names)
+  pub are : AreFound base (message ∷ received) choice.root (pathless_in (held_of now) names) (found ++ before.found)
+
+-- ---- what the steps lead to, from the chain as it is once the graph has added the message
+
+-- the message is received, where the graph answered so
+abbrev pub Receives : View → View → Message → Added → Moved → Type 0
+Receives now new message added moved =
+    (before : graph.Tables) (base : Base) (received : List Message) (choice : Choice) → NamesDiffer (message ∷ received) → IsAdding (record now { graph = before }) now base received message choice added → IsReceived (record now { graph = before }) new base received message choice moved
+
+-- the chain stands for what it stood for
+abbrev pub Refuses : View → View → Message → Added → Type 0
+Refuses now new message added = (before : graph.Tables) (base : Base) (received : List Message) (choice : Choice) → IsAdding (record now { graph = before }) now base received message choice added → StandsFor new base received choice
+
+-- the message is received, if its parent has no mark
+abbrev pub TakesOn : View → View → List Linking → Moved → Type 0
+TakesOn now new linkings moved =
+    (before : View) (base : Base) (received : List Message) (message : Message) (choice : Choice) → IsJoining before now base received message choice linkings → marks (held_of before) message.parent ≡ false → IsReceived before new base received message choice moved
+
+-- the message is received, if no path won
+abbrev pub Stays : View → View → BTreeSet Name → List Name → Moved → Type 0
+Stays now new names found moved =
+    (before : View) (base : Base) (received : List Message) (message : Message) (choice : Choice) (linkings : List Linking) → (out : IsFoundOut before now base received message choice linkings names found)
+    → IsBestThrough base (message ∷ received) choice.root (out.joining.adding.stood.above ++ choice.root) → IsReceived before new base received message choice moved
+
+-- the message is received, if a path won that has the first `keep` messages of the branch, and then those that `come` takes back
+abbrev pub Switches : View → View → BTreeSet Name → List Name → ℕ → List Undo → List ℕ → Moved → Type 0
+Switches now new names found keep come units moved =
+    (before : View) (base : Base) (received : List Message) (message : Message) (choice : Choice) (linkings : List Linking) (path : List Message) → (out : IsFoundOut before now base received message choice linkings names found)
+    → IsBestThrough base (message ∷ received) choice.root (path ++ choice.root) → IsWon base (message ∷ received) choice.root out.joining.adding.stood.above path now.branch.branch (held_of now) keep come units → IsReceived before new base received message choice moved
