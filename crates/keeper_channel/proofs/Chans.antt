@@ -1,12 +1,15 @@
 -- Laws of a channel's list, over lists alone.
-use Rattle.std.proofs.Common.{◌≡◌, ◌∙◌, inl, inr, ◌⊎◌, ℕ, zero, suc, ◌+◌, ◌<◌, ◌≤◌, arith, Bool, true, false, List, [], ◌∷◌, ◌++◌, length, take, Some, MatchBool, refl, sym, ap, subst}
+use Rattle.std.proofs.Common.{◌≡◌, ◌∙◌, inl, inr, ◌⊎◌, ℕ, zero, suc, ◌+◌, ◌<◌, ◌≤◌, arith, Bool, true, false, List, [], ◌∷◌, ◌++◌, length, take, None, Some, Option, MatchBool, refl, sym, ap, subst}
 use Rattle.std.specs.Prelude.{slice_get, ◌==◌}
 use Rattle.std.proofs.lemmas.List.{take_more, nil_from_length}
 use Rattle.std.proofs.lemmas.Option.{slice_get_within, get_or_from_slice_get}
-use Rattle.keeper_channel.specs.Chan.{has_marker, unmarked, at_moment_zero, moved, IsChan, IsList, IsWithin, doubt_if}
+use Rattle.keeper_channel.specs.Chan.{MarkerAt, has_marker, unmarked, at_moment_zero, moved, IsChan, IsList, IsWithin, doubt_if}
 use Rattle.gated_log.specs.Ledger.{LeavesOut}
 use Rattle.std.proofs.lemmas.Bool.{eqb-true}
-use Rattle.keeper_channel.specs.Slot.{IsFound}
+use Rattle.std.specs.Option.{option_map}
+use Rattle.keeper_entry.specs.Entry.{IsEntry}
+use Rattle.keeper_channel.specs.Entries.{AreEntries}
+use Rattle.keeper_channel.specs.Logs.{IsFound}
 use Rattle.keeper_channel.specs.Inside.Adding.{IsAdding}
 use Rattle.gated_log.specs.Ledger.{Within}
 
@@ -130,7 +133,7 @@ none_more payloads index payload got long none =
 
 -- a log that may have one moved entry more is still what form one opens as
 pub adding_unmoved : (opens_one opens_two : (List ℕ → List ℕ) → List (List ℕ) → Type 0) (files : List ℕ → List ℕ) (done doubt old : List (List ℕ)) (payload : List ℕ)
-    → has_marker done ≡ false → doubt ≡ [] → has_marker (payload ∷ []) ≡ false → opens_one files old → IsAdding (opens_two files) done doubt payload → IsList opens_one opens_two files (moved old)
+    → has_marker done ≡ false → doubt ≡ [] → has_marker (payload ∷ []) ≡ false → opens_one files old → IsAdding (opens_two files) done doubt (payload ∷ []) → IsList opens_one opens_two files (moved old)
 adding_unmoved opens_one opens_two files done doubt old payload none sure one is (inl (inl opened)) = unmoved_list opens_one opens_two files done old opened none is
 adding_unmoved opens_one opens_two files done doubt old payload none sure one is (inl (inr opened)) =
     unmoved_list opens_one opens_two files (done ++ doubt) old opened (unmarked_append done doubt none (ap has_marker sure)) is
@@ -140,7 +143,7 @@ adding_unmoved opens_one opens_two files done doubt old payload none sure one is
 
 -- the marker behind moved entries
 pub adding_marker : (opens_one opens_two : (List ℕ → List ℕ) → List (List ℕ) → Type 0) (files : List ℕ → List ℕ) (doubt old : List (List ℕ))
-    → doubt ≡ [] → opens_one files old → IsAdding (opens_two files) (moved old) doubt [] → IsList opens_one opens_two files (moved old)
+    → doubt ≡ [] → opens_one files old → IsAdding (opens_two files) (moved old) doubt ([] ∷ []) → IsList opens_one opens_two files (moved old)
 adding_marker opens_one opens_two files doubt old sure is (inl (inl opened)) = unmoved_list opens_one opens_two files (moved old) old opened (moved_unmarked old) is
 adding_marker opens_one opens_two files doubt old sure is (inl (inr opened)) =
     unmoved_list opens_one opens_two files (moved old ++ doubt) old opened (unmarked_append (moved old) doubt (moved_unmarked old) (ap has_marker sure)) is
@@ -148,16 +151,16 @@ adding_marker opens_one opens_two files doubt old sure is (inr (inl opened)) = u
 adding_marker opens_one opens_two files doubt old sure is (inr (inr opened)) =
     subst (IsList opens_one opens_two files) (moved_without old) (moved_list opens_one opens_two files (moved old ++ [] ∷ []) opened (moved_marked old))
 
--- a moved channel that may have one payload more
-pub adding_moved : (opens_one opens_two : (List ℕ → List ℕ) → List (List ℕ) → Type 0) (files : List ℕ → List ℕ) (new doubt : List (List ℕ)) (payload : List ℕ)
-    → has_marker new ≡ true → IsAdding (opens_two files) new doubt payload
-    → IsWithin (IsList opens_one opens_two files) (unmarked new) doubt ⊎ IsWithin (IsList opens_one opens_two files) (unmarked new) (payload ∷ [])
-adding_moved opens_one opens_two files new doubt payload some (inl (inl opened)) = inl (inl (moved_list opens_one opens_two files new opened some))
-adding_moved opens_one opens_two files new doubt payload some (inl (inr opened)) =
+-- a moved channel that may have what is added
+pub adding_moved : (opens_one opens_two : (List ℕ → List ℕ) → List (List ℕ) → Type 0) (files : List ℕ → List ℕ) (new doubt added : List (List ℕ))
+    → has_marker new ≡ true → IsAdding (opens_two files) new doubt added
+    → IsWithin (IsList opens_one opens_two files) (unmarked new) doubt ⊎ IsWithin (IsList opens_one opens_two files) (unmarked new) added
+adding_moved opens_one opens_two files new doubt added some (inl (inl opened)) = inl (inl (moved_list opens_one opens_two files new opened some))
+adding_moved opens_one opens_two files new doubt added some (inl (inr opened)) =
     inl (inr (subst (IsList opens_one opens_two files) (unmarked_more new doubt some) (moved_list opens_one opens_two files (new ++ doubt) opened (marked_more new doubt some))))
-adding_moved opens_one opens_two files new doubt payload some (inr (inl opened)) = inr (inl (moved_list opens_one opens_two files new opened some))
-adding_moved opens_one opens_two files new doubt payload some (inr (inr opened)) =
-    inr (inr (subst (IsList opens_one opens_two files) (unmarked_more new (payload ∷ []) some) (moved_list opens_one opens_two files (new ++ payload ∷ []) opened (marked_more new (payload ∷ []) some))))
+adding_moved opens_one opens_two files new doubt added some (inr (inl opened)) = inr (inl (moved_list opens_one opens_two files new opened some))
+adding_moved opens_one opens_two files new doubt added some (inr (inr opened)) =
+    inr (inr (subst (IsList opens_one opens_two files) (unmarked_more new added some) (moved_list opens_one opens_two files (new ++ added) opened (marked_more new added some))))
 
 pub empty_payload : (payload slice : List ℕ) (test : Bool) → slice ≡ payload → test ≡ (length slice == 0) → test ≡ true → payload ≡ []
 empty_payload payload slice test same is true_is = let none : length slice ≡ 0 = eqb-true (length slice) 0 (sym is ∙ true_is) in sym same ∙ nil_from_length slice (omega arith)
@@ -213,3 +216,46 @@ pub within_by : (opens_one opens_two : (List ℕ → List ℕ) → List (List �
     → IsWithin (IsList opens_one opens_two files) held suspense → IsWithin (IsList opens_one opens_two other) held suspense
 within_by opens_one opens_two files other held suspense by_one by_two (inl is) = inl (list_by opens_one opens_two files other held by_one by_two is)
 within_by opens_one opens_two files other held suspense by_one by_two (inr is) = inr (list_by opens_one opens_two files other (held ++ suspense) by_one by_two is)
+
+-- a list with a marker at an index has one
+pub marked_at : (two : List (List ℕ)) (marker : ℕ) → MarkerAt two marker → has_marker two ≡ true
+marked_at two marker at = marker_found two marker [] at.0 refl
+
+pub marker_more : (two more : List (List ℕ)) (marker : ℕ) → MarkerAt two marker → MarkerAt (two ++ more) marker
+marker_more [] more marker at = let e : None ≡ Some [] = at.0 in absurd (cc)
+marker_more ([] ∷ two) more zero at = (refl, refl)
+marker_more ([] ∷ two) more (suc marker) at = let e : true ≡ false = at.1 in absurd (cc)
+marker_more ((byte ∷ bytes) ∷ two) more zero at = let e : Some (byte ∷ bytes) ≡ Some [] = at.0 in absurd (cc)
+marker_more ((byte ∷ bytes) ∷ two) more (suc marker) at = marker_more two more marker at
+
+pub marker_behind : (old : List (List ℕ)) → MarkerAt (moved old ++ [] ∷ []) (length old)
+marker_behind [] = (refl, refl)
+marker_behind (payload ∷ old) = marker_behind old
+
+-- what stands in the list without the marker
+pub get_before : (two : List (List ℕ)) (marker index : ℕ) → MarkerAt two marker → index < marker → slice_get (unmarked two) index ≡ slice_get two index
+get_before [] marker index at before = let e : None ≡ Some [] = at.0 in absurd (cc)
+get_before two zero index at before = absurd (omega (arith, before))
+get_before ([] ∷ two) (suc marker) index at before = let e : true ≡ false = at.1 in absurd (cc)
+get_before ((byte ∷ bytes) ∷ two) (suc marker) zero at before = refl
+get_before ((byte ∷ bytes) ∷ two) (suc marker) (suc index) at before = get_before two marker index at (omega (arith, before))
+
+pub get_behind : (two : List (List ℕ)) (marker index : ℕ) → MarkerAt two marker → marker ≤ index → slice_get (unmarked two) index ≡ slice_get two (suc index)
+get_behind [] marker index at behind = let e : None ≡ Some [] = at.0 in absurd (cc)
+get_behind ([] ∷ two) marker index at behind = refl
+get_behind ((byte ∷ bytes) ∷ two) zero index at behind = let e : Some (byte ∷ bytes) ≡ Some [] = at.0 in absurd (cc)
+get_behind ((byte ∷ bytes) ∷ two) (suc marker) zero at behind = absurd (omega (arith, behind))
+get_behind ((byte ∷ bytes) ∷ two) (suc marker) (suc index) at behind = get_behind two marker index at (omega (arith, behind))
+
+pub moved_get : (old : List (List ℕ)) (index : ℕ) (payload : List ℕ) → slice_get old index ≡ Some payload → slice_get (moved old) index ≡ Some (at_moment_zero payload)
+moved_get [] index payload got = cc
+moved_get (first ∷ old) zero payload got = ap (λ (o : Option (List ℕ)). option_map at_moment_zero o) got
+moved_get (first ∷ old) (suc index) payload got = moved_get old index payload got
+
+pub length-moved : (old : List (List ℕ)) → length (moved old) ≡ length old
+length-moved [] = refl
+length-moved (payload ∷ old) = ap suc (length-moved old)
+
+-- an entry of a list of entries
+pub entry_at : (payloads : List (List ℕ)) (index : ℕ) (payload : List ℕ) → AreEntries payloads → slice_get payloads index ≡ Some payload → IsEntry payload
+entry_at payloads index payload all got = subst IsEntry (get_or_from_slice_get payloads index payload payload got) (all index payload (slice_get_within payloads index payload got))

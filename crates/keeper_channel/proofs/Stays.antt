@@ -37,10 +37,10 @@ restarted opens_one opens_two mine before after old new read grew apart by now n
     (opens_since (λ files. opens_one files old) mine before after read grew apart by now image left)
 
 -- nothing was done
-pub adding_still : (opens : (List ℕ → List ℕ) → List (List ℕ) → Type 0) (before after : Disk) (done doubt : List (List ℕ)) (payload : List ℕ) → after ≡ before
-    → EachNow before (λ image. opens image done) → EachSince before after (λ image. IsAdding (opens image) done doubt payload)
-adding_still opens before after done doubt payload same now =
-    let P : Disk → Type 0 = λ disk. EachSince before disk (λ image. IsAdding (opens image) done doubt payload) in
+pub adding_still : (opens : (List ℕ → List ℕ) → List (List ℕ) → Type 0) (before after : Disk) (done doubt added : List (List ℕ)) → after ≡ before
+    → EachNow before (λ image. opens image done) → EachSince before after (λ image. IsAdding (opens image) done doubt added)
+adding_still opens before after done doubt added same now =
+    let P : Disk → Type 0 = λ disk. EachSince before disk (λ image. IsAdding (opens image) done doubt added) in
     subst P (sym same) (λ image left. inl (inl (now image (now_alone before image left))))
 
 -- one entry more may have been moved
@@ -51,7 +51,7 @@ pub moved_each : {O G : Type 0} {theirs : List ℕ → Type 0} (opens_one opens_
     → IsImage mid (reads mid) → Grew theirs mid new → ((file : List ℕ) → theirs file → mine file → ⊥)
     → ((one other : List ℕ → List ℕ) → ((file : List ℕ) → mine file → one file ≡ other file) → opens_one one old → opens_one other old)
     → EachNow mid (λ image. opens_one image old)
-    → EachSince mid new (λ image. IsAdding (opens_two image) (moved (take index old)) (doubt (reads mid)) (at_moment_zero payload))
+    → EachSince mid new (λ image. IsAdding (opens_two image) (moved (take index old)) (doubt (reads mid)) (at_moment_zero payload ∷ []))
     → EachSince start new (λ image. IsList opens_one opens_two image (moved old))
 moved_each opens_one opens_two doubt holds_one holds_two mine one log old index start mid new payload so_far read grew apart by now each =
     each_then start mid new (λ image. IsList opens_one opens_two image (moved old)) grew so_far.each
@@ -71,24 +71,28 @@ pub syncs_then : {own : List ℕ → Type 0} {old mid : Disk} (new : Disk) → O
 syncs_then new first no_sync = first
 syncs_then new first (one_sync {name = name} {new = before} mine syncs) = one_sync mine (syncs_then before first syncs)
 
--- a moved channel to which a payload is added, in each image since
-pub stored_each : (opens_one opens_two : (List ℕ → List ℕ) → List (List ℕ) → Type 0) (two doubt held suspense : List (List ℕ)) (payload : List ℕ) (old new : Disk)
-    → has_marker two ≡ true → held ≡ unmarked two → suspense ≡ doubt → EachSince old new (λ image. IsAdding (opens_two image) two doubt payload)
-    → EachSince old new (λ image. IsWithin (IsList opens_one opens_two image) held suspense ⊎ IsWithin (IsList opens_one opens_two image) held (payload ∷ []))
-stored_each opens_one opens_two two doubt held suspense payload old new marked held_is suspense_is each image left =
-    let P : List (List ℕ) → List (List ℕ) → Type 0 = λ h s. IsWithin (IsList opens_one opens_two image) h s ⊎ IsWithin (IsList opens_one opens_two image) h (payload ∷ []) in
-    subst (λ (h : List (List ℕ)). P h suspense) (sym held_is) (subst (λ (s : List (List ℕ)). P (unmarked two) s) (sym suspense_is) (adding_moved opens_one opens_two image two doubt payload marked (each image left)))
+-- a moved channel to which something is added, in each image since
+pub stored_each : (opens_one opens_two : (List ℕ → List ℕ) → List (List ℕ) → Type 0) (two doubt held suspense added : List (List ℕ)) (old new : Disk)
+    → has_marker two ≡ true → held ≡ unmarked two → suspense ≡ doubt → EachSince old new (λ image. IsAdding (opens_two image) two doubt added)
+    → EachSince old new (λ image. IsWithin (IsList opens_one opens_two image) held suspense ⊎ IsWithin (IsList opens_one opens_two image) held added)
+stored_each opens_one opens_two two doubt held suspense added old new marked held_is suspense_is each image left =
+    let P : List (List ℕ) → List (List ℕ) → Type 0 = λ h s. IsWithin (IsList opens_one opens_two image) h s ⊎ IsWithin (IsList opens_one opens_two image) h added in
+    subst (λ (h : List (List ℕ)). P h suspense) (sym held_is) (subst (λ (s : List (List ℕ)). P (unmarked two) s) (sym suspense_is) (adding_moved opens_one opens_two image two doubt added marked (each image left)))
 
--- and now
-pub stored_now : (opens_one opens_two : (List ℕ → List ℕ) → List (List ℕ) → Type 0) (two doubt held suspense : List (List ℕ)) (payload : List ℕ) (disk : Disk)
+-- and now, where what was doubtful may have been added
+pub stored_doubt : (opens_one opens_two : (List ℕ → List ℕ) → List (List ℕ) → Type 0) (two doubt held suspense : List (List ℕ)) (disk : Disk)
     → has_marker two ≡ true → held ≡ unmarked two → suspense ≡ doubt
-    → EachNow disk (λ image. Within (opens_two image) two doubt) ⊎ EachNow disk (λ image. Within (opens_two image) two (payload ∷ []))
-    → EachNow disk (λ image. IsWithin (IsList opens_one opens_two image) held suspense) ⊎ EachNow disk (λ image. IsWithin (IsList opens_one opens_two image) held (payload ∷ []))
-stored_now opens_one opens_two two doubt held suspense payload disk marked held_is suspense_is (inl now) =
-    inl (λ image left. let P : List (List ℕ) → List (List ℕ) → Type 0 = λ h s. IsWithin (IsList opens_one opens_two image) h s in
-    subst (λ (h : List (List ℕ)). P h suspense) (sym held_is) (subst (λ (s : List (List ℕ)). P (unmarked two) s) (sym suspense_is) (within_moved opens_one opens_two image two doubt marked (now image left))))
-stored_now opens_one opens_two two doubt held suspense payload disk marked held_is suspense_is (inr now) =
-    inr (λ image left. subst (λ (h : List (List ℕ)). IsWithin (IsList opens_one opens_two image) h (payload ∷ [])) (sym held_is) (within_moved opens_one opens_two image two (payload ∷ []) marked (now image left)))
+    → EachNow disk (λ image. Within (opens_two image) two doubt) → EachNow disk (λ image. IsWithin (IsList opens_one opens_two image) held suspense)
+stored_doubt opens_one opens_two two doubt held suspense disk marked held_is suspense_is now image left =
+    let P : List (List ℕ) → List (List ℕ) → Type 0 = λ h s. IsWithin (IsList opens_one opens_two image) h s in
+    subst (λ (h : List (List ℕ)). P h suspense) (sym held_is) (subst (λ (s : List (List ℕ)). P (unmarked two) s) (sym suspense_is) (within_moved opens_one opens_two image two doubt marked (now image left)))
+
+-- or what is added
+pub stored_added : (opens_one opens_two : (List ℕ → List ℕ) → List (List ℕ) → Type 0) (two held added : List (List ℕ)) (disk : Disk)
+    → has_marker two ≡ true → held ≡ unmarked two
+    → EachNow disk (λ image. Within (opens_two image) two added) → EachNow disk (λ image. IsWithin (IsList opens_one opens_two image) held added)
+stored_added opens_one opens_two two held added disk marked held_is now image left =
+    subst (λ (h : List (List ℕ)). IsWithin (IsList opens_one opens_two image) h added) (sym held_is) (within_moved opens_one opens_two image two added marked (now image left))
 
 -- calls on other channels leave a channel's tie, at each moment
 pub tie_since : {theirs : List ℕ → Type 0} (opens_one opens_two : (List ℕ → List ℕ) → List (List ℕ) → Type 0) (mine : List ℕ → Type 0) (old new : Disk) (held suspense : List (List ℕ))

@@ -1,5 +1,7 @@
 -- A channel's list, by what its two files open as.
-use Rattle.std.specs.Prelude.{◌≡◌, ◌⊎◌, ℕ, Bool, true, false, List, [], ◌∷◌, ◌++◌, MatchBool, if◌then◌else◌}
+use Rattle.std.specs.Prelude.{◌≡◌, ◌⊎◌, ℕ, ◌+◌, Bool, true, false, List, [], ◌∷◌, ◌++◌, take, slice_get, Option, None, Some, MatchBool, if◌then◌else◌}
+use Rattle.log_format.specs.declared.form.Form.TheVariants.{Two}
+use Rattle.gated_log.specs.Ledger.{has_room}
 
 -- the marker is a payload without bytes
 abbrev pub is_marker : List ℕ → Bool
@@ -9,6 +11,15 @@ is_marker (byte ∷ bytes) = false
 abbrev pub has_marker : List (List ℕ) → Bool
 has_marker [] = false
 has_marker (payload ∷ payloads) = if is_marker payload then true else has_marker payloads
+
+-- the index of the first marker
+abbrev pub MarkerAt : List (List ℕ) → ℕ → Type 0
+MarkerAt payloads index = (slice_get payloads index ≡ Some []) × (has_marker (take index payloads) ≡ false)
+
+-- the index of the first marker, or that there is none
+abbrev pub FirstMarker : List (List ℕ) → Option ℕ → Type 0
+FirstMarker payloads None = has_marker payloads ≡ false
+FirstMarker payloads (Some index) = MarkerAt payloads index
 
 -- a list without its first marker
 abbrev pub unmarked : List (List ℕ) → List (List ℕ)
@@ -41,3 +52,8 @@ doubt_if false doubt = []
 -- its list is this, or this and what is in suspense
 abbrev pub IsWithin : (List (List ℕ) → Type 0) → (held suspense : List (List ℕ)) → Type 0
 IsWithin is held suspense = is held ⊎ is (held ++ suspense)
+
+-- Whether so many entries more, with so many bytes of payload together, fit behind a channel's list: into a file of form Two with
+-- that list, one marker, and them.
+abbrev pub channel_room : (held : List (List ℕ)) → (entries bytes : ℕ) → Bool
+channel_room held entries bytes = has_room Two held (1 + entries) bytes

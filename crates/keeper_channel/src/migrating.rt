@@ -2,7 +2,9 @@ ghost use Rattle.std.specs.Prelude.{◌≡◌, ◌+◌, ◌<◌, ◌≤◌, ◌+
 ghost use Rattle.pad_edge.specs.Count.{Rose};
 ghost use Rattle.disk_volume.specs.Disk.{reads};
 ghost use Rattle.disk_volume.specs.Moments.{EachSince, Grew};
-ghost use Rattle.keeper_channel.specs.Chan.{has_marker, moved, at_moment_zero, IsList};
+ghost use Rattle.log_format.specs.declared.damage.Damage.{Damage};
+ghost use Rattle.keeper_channel.specs.Entries.{AreEntries};
+ghost use Rattle.keeper_channel.specs.Chan.{has_marker, moved, channel_room, IsList};
 ghost use Rattle.keeper_channel.specs.Inside.Adding.{IsMoving};
 
 use crate::moving::{add_reserved, move_entry};
@@ -23,10 +25,13 @@ fn restart_channel<O: Ledger, G: Ledger, V: Volume>(
     requires apart { (file : List ℕ) → G.owns two.now file → O.owns (O.name one.now) file → ⊥ }
     requires rests { V.tells → G.rests Form.Two two.now (V.disk volume.old) }
     ensures made { IfOk result (λ log. (G.name log ≡ two.now) × (G.form_of log ≡ Form.Two) × IsTrue (G.live log)) }
+    ensures counted { IfOk result (λ log. G.count log ≡ 0) }
     ensures any_moment { V.tells → (old new : List (List ℕ)) → O.holds one.now old (V.disk volume.old) → G.opens_as Form.Two two.now (reads (V.disk volume.old)) new → has_marker new ≡ false
         → EachSince (V.disk volume.old) (V.disk volume.new) (λ image. IsList (O.opens_as Form.One (O.name one.now)) (G.opens_as Form.Two two.now) image (moved old)) }
     ensures moving { V.tells → (old new : List (List ℕ)) → O.holds one.now old (V.disk volume.old) → G.opens_as Form.Two two.now (reads (V.disk volume.old)) new → has_marker new ≡ false
         → IfOk result (λ log. IsMoving (O.opens_as Form.One (O.name one.now)) (G.opens_as Form.Two two.now) (G.doubt Form.Two two.now) O.holds G.holds (G.owns two.now) one.now log old 0 (V.disk volume.old) (V.disk volume.new)) }
+    ensures full { IsErrOf result KeeperRefused.Full → ⊥ }
+    ensures sound { (damage : Damage) → IsErrOf result (KeeperRefused.Damaged damage) → ⊥ }
     ensures files { V.tells → Grew (G.owns two.now) (V.disk volume.old) (V.disk volume.new) }
     ensures follows { V.follows volume.old volume.new }
     ensures store { IsErrOf result KeeperRefused.Store → Rose (V.faults volume.old) (V.faults volume.new) }
@@ -51,8 +56,10 @@ fn move_entries<O: Ledger, G: Ledger, V: Volume>(
     requires form_two { G.form_of log.old ≡ Form.Two }
     requires live_one { IsTrue (O.live one.now) }
     requires live { IsTrue (G.live log.old) }
+    requires none { G.count log.old ≡ 0 }
     requires apart { (file : List ℕ) → G.owns (G.name log.old) file → O.owns (O.name one.now) file → ⊥ }
     requires holds { V.tells → (old : List (List ℕ)) × O.holds one.now old (V.disk volume.old) × G.holds log.old [] (V.disk volume.old) × (G.doubt Form.Two (G.name log.old) (reads (V.disk volume.old)) ≡ []) }
+    ensures counted { OnOk result (G.count log.new ≡ O.count one.now) }
     ensures live { OnOk result (IsTrue (G.live log.new)) }
     ensures name { G.name log.new ≡ G.name log.old }
     ensures form { G.form_of log.new ≡ Form.Two }
@@ -60,6 +67,8 @@ fn move_entries<O: Ledger, G: Ledger, V: Volume>(
         → EachSince (V.disk volume.old) (V.disk volume.new) (λ image. IsList (O.opens_as Form.One (O.name one.now)) (G.opens_as Form.Two (G.name log.old)) image (moved old)) }
     ensures moved { V.tells → (old : List (List ℕ)) → O.holds one.now old (V.disk volume.old)
         → OnOk result (G.holds log.new (moved old) (V.disk volume.new) × O.holds one.now old (V.disk volume.new) × (G.doubt Form.Two (G.name log.old) (reads (V.disk volume.new)) ≡ [])) }
+    ensures full { V.tells → (old : List (List ℕ)) → O.holds one.now old (V.disk volume.old) → IsErrOf result KeeperRefused.Full → channel_room (moved old) 0 0 ≡ false }
+    ensures damaged { V.tells → (old : List (List ℕ)) → O.holds one.now old (V.disk volume.old) → (damage : Damage) → IsErrOf result (KeeperRefused.Damaged damage) → AreEntries (moved old) → ⊥ }
     ensures files { V.tells → Grew (G.owns (G.name log.old)) (V.disk volume.old) (V.disk volume.new) }
     ensures follows { V.follows volume.old volume.new }
     ensures store { IsErrOf result KeeperRefused.Store → Rose (V.faults volume.old) (V.faults volume.new) }
@@ -90,9 +99,12 @@ fn mark<O: Ledger, G: Ledger, V: Volume>(
         → OnOk result (G.holds log.new (moved old ++ [] ∷ []) (V.disk volume.new)) }
     ensures sure { V.tells → (old : List (List ℕ)) → G.holds log.old (moved old) (V.disk volume.old)
         → OnOk result (G.doubt (G.form_of log.new) (G.name log.new) (reads (V.disk volume.new)) ≡ []) }
+    ensures counted { OnOk result (G.count log.new ≡ G.count log.old + 1) }
     ensures live { OnOk result (IsTrue (G.live log.new)) }
     ensures name { G.name log.new ≡ G.name log.old }
     ensures form { G.form_of log.new ≡ Form.Two }
+    ensures full { V.tells → (old : List (List ℕ)) → G.holds log.old (moved old) (V.disk volume.old) → IsErrOf result KeeperRefused.Full → channel_room (moved old) 0 0 ≡ false }
+    ensures sound { (damage : Damage) → IsErrOf result (KeeperRefused.Damaged damage) → ⊥ }
     ensures files { V.tells → Grew (G.owns (G.name log.old)) (V.disk volume.old) (V.disk volume.new) }
     ensures follows { V.follows volume.old volume.new }
     ensures store { IsErrOf result KeeperRefused.Store → Rose (V.faults volume.old) (V.faults volume.new) }
@@ -120,10 +132,13 @@ pub fn migrate<O: Ledger, G: Ledger, V: Volume>(
     requires rests { V.tells → G.rests Form.Two two.now (V.disk volume.old) }
     requires unmarked { V.tells → (new : List (List ℕ)) × G.opens_as Form.Two two.now (reads (V.disk volume.old)) new × (has_marker new ≡ false) }
     ensures made { IfOk result (λ log. (G.name log ≡ two.now) × (G.form_of log ≡ Form.Two) × IsTrue (G.live log)) }
+    ensures counted { IfOk result (λ log. G.count log ≡ O.count one.now + 1) }
     ensures any_moment { V.tells → (old : List (List ℕ)) → O.holds one.now old (V.disk volume.old)
         → EachSince (V.disk volume.old) (V.disk volume.new) (λ image. IsList (O.opens_as Form.One (O.name one.now)) (G.opens_as Form.Two two.now) image (moved old)) }
     ensures migrated { V.tells → (old : List (List ℕ)) → O.holds one.now old (V.disk volume.old)
         → IfOk result (λ log. G.holds log (moved old ++ [] ∷ []) (V.disk volume.new) × (G.doubt Form.Two two.now (reads (V.disk volume.new)) ≡ [])) }
+    ensures full { V.tells → (old : List (List ℕ)) → O.holds one.now old (V.disk volume.old) → IsErrOf result KeeperRefused.Full → channel_room (moved old) 0 0 ≡ false }
+    ensures damaged { V.tells → (old : List (List ℕ)) → O.holds one.now old (V.disk volume.old) → (damage : Damage) → IsErrOf result (KeeperRefused.Damaged damage) → AreEntries (moved old) → ⊥ }
     ensures files { V.tells → Grew (G.owns two.now) (V.disk volume.old) (V.disk volume.new) }
     ensures follows { V.follows volume.old volume.new }
     ensures store { IsErrOf result KeeperRefused.Store → Rose (V.faults volume.old) (V.faults volume.new) }

@@ -1,27 +1,21 @@
+use crate::logs::Logs;
 use crate::refused::KeeperRefused;
+use keeper_entry::Index;
 
-/// The logs of a channel that is loaded.
+/// A channel that is loaded: its logs, and the index of its list.
 #[derive(Drop)]
-pub enum Slot<O, G> {
-    /// The log of form Two has no marker yet, so the channel's list is that of form One.
-    Unmoved {
-        /// The log of form One.
-        one: O,
-        /// The log of form Two, whose entries mean nothing.
-        two: G,
-    },
-    /// The log of form Two has a marker, so it is the channel's.
-    Moved {
-        /// The log of form Two.
-        log: G,
-    },
+pub struct Slot<O, G> {
+    /// Its logs.
+    pub logs: Logs<O, G>,
+    /// What is known of its entries.
+    pub index: Index,
 }
 
 /// What a store left of a channel, and its answer.
 #[derive(Drop)]
 pub struct Stored<O, G> {
-    /// The channel's logs. There are none if the channel has to be loaded again.
+    /// The channel. There is none if it has to be loaded again.
     pub slot: Option<Slot<O, G>>,
-    /// The index of the entry.
+    /// The index of the first of the entries that were stored.
     pub answer: Result<u64, KeeperRefused>,
 }

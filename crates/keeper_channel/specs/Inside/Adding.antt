@@ -1,16 +1,20 @@
 -- What private functions say of a log to which something is added.
-use Rattle.std.specs.Prelude.{◌≡◌, ◌⊎◌, ℕ, List, [], ◌∷◌, ◌++◌, take, length, Option, Result, MatchResult}
+use Rattle.std.specs.Prelude.{◌≡◌, ◌⊎◌, ℕ, false, List, [], ◌∷◌, ◌++◌, take, length, Result, MatchResult, IsErrOf}
 use Rattle.disk_volume.specs.Disk.{Disk, reads}
-use Rattle.disk_volume.specs.Moments.{EachSince, Grew}
+use Rattle.disk_volume.specs.Moments.{EachNow, EachSince, Grew}
+use Rattle.log_format.specs.Frames.{size_of}
+use Rattle.log_format.specs.declared.damage.Damage.{Damage}
 use Rattle.gated_log.specs.Ledger.{Within}
-use Rattle.keeper_channel.specs.Chan.{moved, IsList, IsWithin}
-use Rattle.keeper_channel.specs.Slot.{Keeps}
-use Rattle.keeper_channel.specs.declared.slot.Slot.{Slot}
+use Rattle.keeper_channel.specs.Entries.{AreEntries}
+use Rattle.keeper_channel.specs.Chan.{moved, channel_room, IsList, IsWithin}
+use Rattle.keeper_channel.specs.Logs.{IsLive}
+use Rattle.keeper_channel.specs.declared.logs.Added.{Added}
 use Rattle.keeper_channel.specs.declared.refused.KeeperRefused.{KeeperRefused}
+use Rattle.keeper_channel.specs.declared.refused.KeeperRefused.TheVariants.{Full, Store, Damaged}
 
--- it opens as these payloads, with what was doubtful or without, or with one more
-abbrev pub IsAdding : (List (List ℕ) → Type 0) → (payloads doubt : List (List ℕ)) → (payload : List ℕ) → Type 0
-IsAdding opens payloads doubt payload = Within opens payloads doubt ⊎ Within opens payloads (payload ∷ [])
+-- it opens as these payloads, with what was doubtful or without, or with what is added or without
+abbrev pub IsAdding : (List (List ℕ) → Type 0) → (payloads doubt added : List (List ℕ)) → Type 0
+IsAdding opens payloads doubt added = Within opens payloads doubt ⊎ Within opens payloads added
 
 -- So many entries of form One were moved: the log of form Two has them and nothing is doubtful, that of form One is as it was, and
 -- since `start` each crash left the channel's list.
@@ -23,11 +27,16 @@ pub record IsMoving {O G : Type 0} (opens_one opens_two : (List ℕ → List ℕ
   pub each : EachSince start disk (λ image. IsList opens_one opens_two image (moved old))
   pub files : Grew owns start disk
 
--- What a store into a loaded channel did: since it began each crash leaves the list, with what was in suspense or with the payload
--- or without, and it left the list with the payload, or the list with one of the two in suspense.
+-- What a store into loaded logs did. Since it began each crash leaves the list, with what was in suspense or with what is added, or
+-- without. At `Ok` the list has what is added. After a refusal each crash leaves the list, with what was in suspense or without, or,
+-- where the volume failed, with what is added or without. `Full` comes only where the list has no room, and `Damaged` only where
+-- some payload of the list holds no entry.
 pub record IsAdded {O G : Type 0} (opens_one opens_two : (List ℕ → List ℕ) → List (List ℕ) → Type 0) (doubt : (List ℕ → List ℕ) → List (List ℕ))
     (holds_one : O → List (List ℕ) → Disk → Type 0) (holds_two : G → List (List ℕ) → Disk → Type 0)
-    (held suspense : List (List ℕ)) (payload : List ℕ) (slot : Option (Slot O G)) (answer : Result ℕ KeeperRefused) (old new : Disk) : Type 0 where
-  pub each : EachSince old new (λ image. IsWithin (IsList opens_one opens_two image) held suspense ⊎ IsWithin (IsList opens_one opens_two image) held (payload ∷ []))
-  pub left : MatchResult answer (λ index. Keeps opens_one opens_two doubt holds_one holds_two slot (held ++ payload ∷ []) [] new × (index ≡ length held))
-      (λ refused. Keeps opens_one opens_two doubt holds_one holds_two slot held suspense new ⊎ Keeps opens_one opens_two doubt holds_one holds_two slot held (payload ∷ []) new)
+    (held suspense group : List (List ℕ)) (answer : Result (Added O G) KeeperRefused) (old new : Disk) : Type 0 where
+  pub each : EachSince old new (λ image. IsWithin (IsList opens_one opens_two image) held suspense ⊎ IsWithin (IsList opens_one opens_two image) held group)
+  pub left : MatchResult answer (λ added. IsLive holds_one holds_two doubt added.logs (held ++ group) [] new × (added.index ≡ length held))
+      (λ refused. EachNow new (λ image. IsWithin (IsList opens_one opens_two image) held suspense)
+      ⊎ ((refused ≡ Store) × EachNow new (λ image. IsWithin (IsList opens_one opens_two image) held group)))
+  pub full : IsErrOf answer Full → channel_room held (length group) (size_of group) ≡ false
+  pub sound : (damage : Damage) → IsErrOf answer (Damaged damage) → AreEntries held → ⊥

@@ -30,3 +30,6 @@ returns-clause-found g c = λ told new holds opened none.
         suspense_is = refl;
       },
     )
+
+pub returns-clause-counted : goal.returns-clause-counted
+returns-clause-counted g c = (g.O.Ledger.count c.in_ok-old.old, refl)

@@ -1,12 +1,14 @@
-use Rattle.std.proofs.Common.{inl, inr, ◌∙◌, sym, subst}
+use Rattle.std.proofs.Common.{inl, inr, ◌∙◌, ℕ, List, Some, sym, ap, subst}
 use Rattle.disk_volume.specs.Disk.{Disk}
-use Rattle.keeper_channel.proofs.Chans.{marker_found, none_more, empty_payload, full_payload}
+use Rattle.keeper_channel.proofs.Chans.{none_more, empty_payload, full_payload}
 use Rattle.keeper_channel.proofs.marker.find_marker.Goals as goal
 
 pub returns-then-is_empty-clause-found : goal.returns-then-is_empty-clause-found
 returns-then-is_empty-clause-found g c = λ told payloads holds.
     let here = subst (λ (disk : Disk). g.G.Ledger.holds c.args.log.now payloads disk) (sym (c.loop-index.invariant.disk told)) holds in
-    sym (marker_found payloads c.loop-index.index _ (c.in_ok-payload.ensures.payload told payloads here) (empty_payload _ c.as_slice.result.now c.is_empty.result c.as_slice.ensures c.is_empty.ensures c.if-is_empty.true))
+    let got = c.in_ok-payload.ensures.payload told payloads here in
+    let empty = empty_payload _ c.as_slice.result.now c.is_empty.result c.as_slice.ensures c.is_empty.ensures c.if-is_empty.true in
+    (got ∙ ap (λ (p : List ℕ). Some p) empty, c.loop-index.invariant.none told payloads holds)
 
 pub loop-index-preserved : goal.loop-index-preserved
 loop-index-preserved g c = record {

@@ -4,6 +4,9 @@ use Rattle.disk_volume.specs.Moments.{Grew, EachSince}
 use Rattle.disk_volume.specs.Lemmas.Since.{each_then, grew_then}
 use Rattle.keeper_channel.specs.Chan.{moved, IsList}
 use Rattle.log_format.specs.declared.form.Form.TheVariants.{One, Two}
+use Rattle.std.proofs.lemmas.Result.{err_from_is_err_and}
+use Rattle.keeper_channel.specs.declared.refused.KeeperRefused.TheVariants.{Full, Damaged}
+use Rattle.keeper_channel.proofs.Results.{err_of}
 use Rattle.keeper_channel.proofs.migrating.migrate.Goals as goal
 
 pub returns-in_err-move_entries-clause-files : goal.returns-in_err-move_entries-clause-files
@@ -94,3 +97,22 @@ returns-clause-any_moment g c = λ told old holds.
     let sure = subst (λ (n : List ℕ). G.doubt Two n (reads next) ≡ []) (sym c.move_entries.ensures.name) all.2 in
     let each_third = subst (λ (n : List ℕ). Q next last n) (c.move_entries.ensures.name ∙ named) (c.mark.ensures.any_moment told old all.1 all.0 sure) in
     each_then start next last P third through each_third
+
+pub returns-in_err-move_entries-clause-full : goal.returns-in_err-move_entries-clause-full
+returns-in_err-move_entries-clause-full g c = let p = err_from_is_err_and c.from_residual-in_err-move_entries.result c.from_residual-in_err-move_entries.ensures.1 in rw (p.1, p.2) (λ told old holds is_full.
+    let given = c.requires.unmarked told in
+    let moving = c.in_ok-log.ensures.moving told old given.0 holds given.1 given.2 in
+    c.in_err-move_entries.ensures.full told old moving.holds_old (err_of _ Full is_full))
+
+pub returns-in_err-move_entries-clause-damaged : goal.returns-in_err-move_entries-clause-damaged
+returns-in_err-move_entries-clause-damaged g c = let p = err_from_is_err_and c.from_residual-in_err-move_entries.result c.from_residual-in_err-move_entries.ensures.1 in rw (p.1, p.2) (λ told old holds damage is all.
+    let given = c.requires.unmarked told in
+    let moving = c.in_ok-log.ensures.moving told old given.0 holds given.1 given.2 in
+    c.in_err-move_entries.ensures.damaged told old moving.holds_old damage (err_of _ (Damaged damage) is) all)
+
+pub returns-in_err-mark-clause-full : goal.returns-in_err-mark-clause-full
+returns-in_err-mark-clause-full g c = let p = err_from_is_err_and c.from_residual-in_err-mark.result c.from_residual-in_err-mark.ensures.1 in rw (p.1, p.2) (λ told old holds is_full.
+    let given = c.requires.unmarked told in
+    let moving = c.in_ok-log.ensures.moving told old given.0 holds given.1 given.2 in
+    let all = c.in_ok-move_entries.ensures.moved told old moving.holds_old in
+    c.in_err-mark.ensures.full told old all.0 (err_of _ Full is_full))

@@ -8,6 +8,7 @@ invariant-loop-index g l = let V = g.V.Volume in let G = g.G.Ledger in let O = g
   name : G.name l.log ≡ G.name l.fn.log;
   form : G.form_of l.log ≡ Two;
   live : IsTrue (G.live l.log);
+  counted : G.count l.log ≡ l.index;
   moving : V.tells → (old : List (List ℕ)) → O.holds l.one old (V.disk l.fn.volume)
       → IsMoving (O.opens_as One (O.name l.one)) (G.opens_as Two (G.name l.fn.log)) (G.doubt Two (G.name l.fn.log)) O.holds G.holds (G.owns (G.name l.fn.log)) l.one l.log old l.index (V.disk l.fn.volume) (V.disk l.volume);
   follows : V.follows l.fn.volume l.volume;

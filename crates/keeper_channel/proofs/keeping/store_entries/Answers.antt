@@ -1,0 +1,36 @@
+use Rattle.std.proofs.Common.{◌≡◌, ◌∙◌, inl, inr, ℕ, ◌+◌, ◌++◌, List, length, false, true, IsTrue, refl, sym, subst, ap}
+use Rattle.disk_volume.specs.Lemmas.Since.{now_alone}
+use Rattle.disk_volume.specs.Moments.{still}
+use Rattle.log_format.specs.declared.form.Form.TheVariants.{One, Two}
+use Rattle.log_format.specs.Frames.{size_of}
+use Rattle.keeper_channel.specs.Chan.{channel_room}
+use Rattle.keeper_channel.proofs.Slots.{live_now, by_name}
+use Rattle.keeper_channel.specs.declared.refused.KeeperRefused.TheVariants.{Full, Damaged}
+use Rattle.keeper_channel.proofs.Results.{err_of}
+use Rattle.keeper_channel.proofs.keeping.store_entries.Goals as goal
+
+pub returns-in-Err-clause-stored : goal.returns-in-Err-clause-stored
+returns-in-Err-clause-stored g c = λ told held suspense is.
+    let O = g.O.Ledger in let G = g.G.Ledger in let disk = g.V.Volume.disk c.args.volume.now in
+    let one = c.args.one.now in let two = c.args.two.now in
+    let now = live_now (O.opens_as One one) (G.opens_as Two two) (G.doubt Two two) O.holds G.holds
+    (λ log. (O.name log ≡ one) × (O.form_of log ≡ One) × IsTrue (O.live log)) (λ log. (G.name log ≡ two) × (G.form_of log ≡ Two) × IsTrue (G.live log)) c.args.slot.logs held suspense disk
+    (λ log payloads made holds. by_name O.opens_as O.name O.form_of O.live One one disk log payloads made (g.met.O.Ledger.holds_now log payloads disk holds))
+    (λ log payloads made holds. by_name G.opens_as G.name G.form_of G.live Two two disk log payloads made (g.met.G.Ledger.holds_now log payloads disk holds))
+    c.requires.made.made is.live in
+    record {
+      each = λ image left. inl (inl (now image (now_alone disk image left)));
+      left = inl is;
+      full = (
+        (λ is_full. (c.in-Err.ensures.full held is.indexed).0 (err_of c.in-Err.refused Full is_full)),
+        (λ none. err_of c.in-Err.refused Full ((c.in-Err.ensures.full held is.indexed).1 none)),
+      );
+      nothing = λ is_full. (refl, refl);
+      undamaged = λ damage found. c.in-Err.ensures.sound damage (err_of c.in-Err.refused (Damaged damage) found);
+    }
+
+pub returns-in-Ok-clause-stored : goal.returns-in-Ok-clause-stored
+returns-in-Ok-clause-stored g c = λ told held suspense is. c.store_group.ensures.stored told held suspense is (c.in-Ok.ensures.room held is.indexed)
+
+pub returns-in-Err-clause-files : goal.returns-in-Err-clause-files
+returns-in-Err-clause-files g c = λ told. still

@@ -1,0 +1,13 @@
+use Rattle.std.proofs.Common.{List, ℕ}
+use Rattle.disk_volume.specs.Lemmas.Since.{grew_within}
+use Rattle.std.proofs.Common.{inr}
+use Rattle.keeper_channel.proofs.stores.store_slot.Goals as goal
+
+pub returns-in-Some-clause-stored : goal.returns-in-Some-clause-stored
+returns-in-Some-clause-stored g c = λ told held suspense tie. rw c.in-Some.is (c.store_entries.ensures.stored told held suspense (rw c.in-Some.is at tie))
+
+pub returns-in-None-clause-stored : goal.returns-in-None-clause-stored
+returns-in-None-clause-stored g c = λ told held suspense tie. rw c.in-None.is (c.store_unloaded.ensures.stored told held suspense (rw c.in-None.is at tie))
+
+pub returns-in-Some-clause-files : goal.returns-in-Some-clause-files
+returns-in-Some-clause-files g c = λ told. grew_within (g.V.Volume.disk c.store_entries.new.volume) (λ file is. inr is) (c.store_entries.ensures.files told)

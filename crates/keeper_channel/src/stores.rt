@@ -1,0 +1,99 @@
+ghost use Rattle.std.specs.Prelude.{◌≡◌, ◌≤◌, ◌⊎◌, List, ℕ, length, IfSome, IsSome, IsOk, None, IsErrOf, IsTrue};
+ghost use Rattle.pad_edge.specs.Count.{Rose};
+ghost use Rattle.disk_volume.specs.Moments.{EachNow, Grew};
+ghost use Rattle.log_format.specs.declared.frames.TheConstants.{MOST_FRAMES};
+ghost use Rattle.keeper_channel.specs.Chan.{IsList, IsWithin};
+ghost use Rattle.keeper_channel.specs.Disks.{Either};
+ghost use Rattle.keeper_channel.specs.Entries.{AreEntries};
+ghost use Rattle.keeper_channel.specs.Slot.{IsSlotOf, IsKept, Keeps};
+ghost use Rattle.keeper_channel.specs.Inside.Refusals.{refused_by};
+
+use crate::keeping::store_entries;
+use crate::refused::KeeperRefused;
+use crate::reloading::reload;
+use crate::slot::{Slot, Stored};
+use disk_volume::Volume;
+use gated_log::{Ledger, LoadRefused};
+use log_format::{Form, Payloads};
+use std::alloc::Global;
+
+/// Stores 1 to 64 entries under one gate in a channel, and answers the index of the first. A channel that is not loaded, or not any
+/// more, is loaded first. The refusals, in this order: `Store` where loading failed; `Damaged` exactly by the files; `Full` exactly
+/// where the list has no room, and nothing is moved, primed or written then; `Store` where moving, priming or appending failed. Each
+/// `Store` comes exactly where the volume's count of faults rose, and then the channel has to be loaded again.
+pub fn store_slot<O: Ledger, G: Ledger, V: Volume>(
+    alloc: Global,
+    volume: &mut V,
+    one: &str,
+    two: &str,
+    slot: Option<Slot<O, G>>,
+    entries: &Payloads,
+) -> Stored<O, G>
+    requires made { IfSome slot (IsSlotOf (λ log. (O.name log ≡ one.now) × (O.form_of log ≡ Form.One) × IsTrue (O.live log)) (λ log. (G.name log ≡ two.now) × (G.form_of log ≡ Form.Two) × IsTrue (G.live log)) O.count G.count) }
+    requires apart { (file : List ℕ) → G.owns two.now file → O.owns one.now file → ⊥ }
+    requires some { 1 ≤ length entries.now }
+    requires few { length entries.now ≤ MOST_FRAMES }
+    requires entries { AreEntries entries.now }
+    requires tie { V.tells → (held : List (List ℕ)) × (suspense : List (List ℕ)) × Keeps (O.opens_as Form.One one.now) (G.opens_as Form.Two two.now) (G.doubt Form.Two two.now) O.holds G.holds slot held suspense (V.disk volume.old) }
+    ensures stored { V.tells → (held suspense : List (List ℕ)) → Keeps (O.opens_as Form.One one.now) (G.opens_as Form.Two two.now) (G.doubt Form.Two two.now) O.holds G.holds slot held suspense (V.disk volume.old)
+        → IsKept (O.opens_as Form.One one.now) (G.opens_as Form.Two two.now) (G.doubt Form.Two two.now) (O.damage Form.One one.now) (G.damage Form.Two two.now) O.holds G.holds
+        slot held suspense entries.now result.slot result.answer (V.disk volume.old) (V.disk volume.new) }
+    ensures some { IsOk result.answer → IsSome result.slot }
+    ensures none { IsErrOf result.answer KeeperRefused.Store → result.slot ≡ None }
+    ensures made { IfSome result.slot (IsSlotOf (λ log. (O.name log ≡ one.now) × (O.form_of log ≡ Form.One) × IsTrue (O.live log)) (λ log. (G.name log ≡ two.now) × (G.form_of log ≡ Form.Two) × IsTrue (G.live log)) O.count G.count) }
+    ensures files { V.tells → Grew (Either (O.owns one.now) (G.owns two.now)) (V.disk volume.old) (V.disk volume.new) }
+    ensures follows { V.follows volume.old volume.new }
+    ensures store { IsErrOf result.answer KeeperRefused.Store → Rose (V.faults volume.old) (V.faults volume.new) }
+    ensures kept { IsErrOf result.answer KeeperRefused.Store ⊎ (V.faults volume.new ≡ V.faults volume.old) }
+    ensures later { V.faults volume.old ≤ V.faults volume.new }
+{
+    match slot {
+        Some(slot) => store_entries(alloc, volume, one, two, slot, entries),
+        None => store_unloaded(alloc, volume, one, two, entries),
+    }
+}
+
+/// Stores entries in a channel that has to be loaded.
+fn store_unloaded<O: Ledger, G: Ledger, V: Volume>(
+    alloc: Global,
+    volume: &mut V,
+    one: &str,
+    two: &str,
+    entries: &Payloads,
+) -> Stored<O, G>
+    requires apart { (file : List ℕ) → G.owns two.now file → O.owns one.now file → ⊥ }
+    requires some { 1 ≤ length entries.now }
+    requires few { length entries.now ≤ MOST_FRAMES }
+    requires entries { AreEntries entries.now }
+    requires tie { V.tells → (held : List (List ℕ)) × (suspense : List (List ℕ)) × EachNow (V.disk volume.old) (λ image. IsWithin (IsList (O.opens_as Form.One one.now) (G.opens_as Form.Two two.now) image) held suspense) }
+    ensures stored { V.tells → (held suspense : List (List ℕ)) → EachNow (V.disk volume.old) (λ image. IsWithin (IsList (O.opens_as Form.One one.now) (G.opens_as Form.Two two.now) image) held suspense)
+        → IsKept (O.opens_as Form.One one.now) (G.opens_as Form.Two two.now) (G.doubt Form.Two two.now) (O.damage Form.One one.now) (G.damage Form.Two two.now) O.holds G.holds
+        None held suspense entries.now result.slot result.answer (V.disk volume.old) (V.disk volume.new) }
+    ensures some { IsOk result.answer → IsSome result.slot }
+    ensures none { IsErrOf result.answer KeeperRefused.Store → result.slot ≡ None }
+    ensures made { IfSome result.slot (IsSlotOf (λ log. (O.name log ≡ one.now) × (O.form_of log ≡ Form.One) × IsTrue (O.live log)) (λ log. (G.name log ≡ two.now) × (G.form_of log ≡ Form.Two) × IsTrue (G.live log)) O.count G.count) }
+    ensures files { V.tells → Grew (Either (O.owns one.now) (G.owns two.now)) (V.disk volume.old) (V.disk volume.new) }
+    ensures follows { V.follows volume.old volume.new }
+    ensures store { IsErrOf result.answer KeeperRefused.Store → Rose (V.faults volume.old) (V.faults volume.new) }
+    ensures kept { IsErrOf result.answer KeeperRefused.Store ⊎ (V.faults volume.new ≡ V.faults volume.old) }
+    ensures later { V.faults volume.old ≤ V.faults volume.new }
+{
+    match reload(alloc, volume, one, two) {
+        Ok(slot) => store_entries(alloc, volume, one, two, slot, entries),
+        Err(refused) => Stored {
+            slot: None,
+            answer: Err(refused_for(refused)),
+        },
+    }
+}
+
+/// What a store is refused with where the load before it was refused.
+fn refused_for(refused: LoadRefused) -> KeeperRefused
+    ensures { result ≡ refused_by refused }
+{
+    match refused {
+        LoadRefused::Store => KeeperRefused::Store,
+        LoadRefused::Damaged(damage) => KeeperRefused::Damaged(damage),
+        LoadRefused::NoMemory(error) => KeeperRefused::NoMemory(error),
+    }
+}
