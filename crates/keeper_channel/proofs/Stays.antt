@@ -1,5 +1,5 @@
 -- What acts on other files leave of a channel.
-use Rattle.std.proofs.Common.{◌≡◌, ◌⊎◌, inl, inr, ℕ, true, false, List, [], ◌∷◌, take, refl, sym, subst}
+use Rattle.std.proofs.Common.{◌≡◌, ◌⊎◌, inl, ℕ, true, false, List, [], ◌∷◌, take, refl, sym, subst}
 use Rattle.disk_volume.specs.Disk.{Disk, IsImage, reads, file_at}
 use Rattle.disk_volume.specs.Moments.{moment, EachSince, EachNow, Grew, OnlySyncs, no_sync, one_sync}
 use Rattle.disk_volume.specs.Lemmas.Others.{others_leave}

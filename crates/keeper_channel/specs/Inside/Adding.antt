@@ -1,5 +1,5 @@
 -- What private functions say of a log to which something is added.
-use Rattle.std.specs.Prelude.{◌≡◌, ◌⊎◌, ℕ, false, List, [], ◌∷◌, ◌++◌, take, length, Result, MatchResult, IsErrOf}
+use Rattle.std.specs.Prelude.{◌≡◌, ◌⊎◌, ℕ, false, List, [], ◌++◌, take, length, Result, MatchResult, IsErrOf}
 use Rattle.disk_volume.specs.Disk.{Disk, reads}
 use Rattle.disk_volume.specs.Moments.{EachNow, EachSince, Grew}
 use Rattle.log_format.specs.Frames.{size_of}

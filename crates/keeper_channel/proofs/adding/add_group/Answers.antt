@@ -1,4 +1,4 @@
-use Rattle.std.proofs.Common.{◌⊎◌, inl, inr, List, ℕ, [], ◌∷◌, Result, Ok, Err, IsErrOf, OnErr, refl, sym, ap, subst}
+use Rattle.std.proofs.Common.{◌⊎◌, inl, inr, List, ℕ, Result, Ok, Err, IsErrOf, OnErr, refl, sym, ap, subst}
 use Rattle.std.proofs.lemmas.Result.{err_from_is_err_and}
 use Rattle.disk_volume.specs.Disk.{Disk, reads}
 use Rattle.disk_volume.specs.Moments.{moment, EachNow, Grew}

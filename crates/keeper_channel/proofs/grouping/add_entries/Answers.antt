@@ -1,6 +1,5 @@
-use Rattle.std.proofs.Common.{◌≡◌, ◌∙◌, ◌<◌, ◌≤◌, ◌+◌, ◌++◌, [], ◌∷◌, arith, List, ℕ, length, take, refl, sym, ap, subst}
+use Rattle.std.proofs.Common.{◌∙◌, ◌<◌, ◌++◌, [], ◌∷◌, arith, List, ℕ, length, take, sym, ap, subst}
 use Rattle.std.proofs.lemmas.List.{take_all, append-nil}
-use Rattle.log_format.specs.declared.frame.TheConstants.{LONGEST_PAYLOAD}
 use Rattle.keeper_entry.specs.Index.{IsIndex}
 use Rattle.keeper_channel.specs.Entries.{AreEntries}
 use Rattle.keeper_entry.specs.Entry.{IsEntry}

@@ -1,4 +1,4 @@
-use Rattle.std.proofs.Common.{◌≡◌, ◌∙◌, ◌<◌, ◌≤◌, ◌+◌, arith, List, ℕ, length, refl, sym, ap, subst}
+use Rattle.std.proofs.Common.{◌≡◌, ◌∙◌, ◌<◌, ◌≤◌, arith, List, ℕ, length, sym, ap, subst}
 use Rattle.std.proofs.lemmas.List.{take_all}
 use Rattle.log_format.specs.declared.frame.TheConstants.{LONGEST_PAYLOAD}
 use Rattle.log_format.specs.Frames.{size_of}

@@ -1,4 +1,3 @@
-use Rattle.std.proofs.Common.{◌≡◌, List, ℕ, Some}
 use Rattle.std.proofs.lemmas.Result.{on_ok_weaker}
 use Rattle.keeper_channel.proofs.indexing.add_entry.Goals as goal
 

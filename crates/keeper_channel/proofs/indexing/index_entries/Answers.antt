@@ -1,4 +1,4 @@
-use Rattle.std.proofs.Common.{◌≡◌, ◌∙◌, inl, inr, ℕ, ◌+◌, ◌≤◌, arith, List, [], ◌∷◌, ◌++◌, length, take, Some, Result, Err, IsErrOf, refl, sym, ap, subst}
+use Rattle.std.proofs.Common.{◌≡◌, ◌∙◌, inl, inr, ℕ, ◌+◌, arith, List, [], ◌∷◌, ◌++◌, take, Some, Err, IsErrOf, refl, sym, ap, subst}
 use Rattle.std.specs.Prelude.{slice_get}
 use Rattle.std.proofs.lemmas.List.{take_more, take_all}
 use Rattle.std.proofs.lemmas.List.Elements.{All-push, All-nil}
@@ -11,11 +11,8 @@ use Rattle.gated_log.specs.declared.refused.LoadRefused.{LoadRefused}
 use Rattle.gated_log.specs.declared.refused.LoadRefused.TheVariants.{Store, Damaged, NoMemory}
 use Rattle.keeper_entry.specs.Entry.{IsEntry}
 use Rattle.keeper_entry.specs.Index.{IsIndex}
-use Rattle.keeper_channel.specs.Chan.{moved}
 use Rattle.keeper_channel.specs.Entries.{AreEntries, IsFirstOther}
 use Rattle.keeper_channel.specs.Logs.{IsLive, NamesDamage, HasCount}
-use Rattle.keeper_channel.specs.declared.logs.Logs.{Logs}
-use Rattle.keeper_channel.specs.declared.logs.Logs.TheVariants.{Unmoved, Moved}
 use Rattle.keeper_channel.proofs.Slots.{counted, few_in, few_entries}
 use Rattle.keeper_channel.proofs.indexing.index_entries.Goals as goal
 

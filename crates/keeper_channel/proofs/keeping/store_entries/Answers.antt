@@ -1,9 +1,7 @@
-use Rattle.std.proofs.Common.{◌≡◌, ◌∙◌, inl, inr, ℕ, ◌+◌, ◌++◌, List, length, false, true, IsTrue, refl, sym, subst, ap}
+use Rattle.std.proofs.Common.{◌≡◌, inl, IsTrue, refl}
 use Rattle.disk_volume.specs.Lemmas.Since.{now_alone}
 use Rattle.disk_volume.specs.Moments.{still}
 use Rattle.log_format.specs.declared.form.Form.TheVariants.{One, Two}
-use Rattle.log_format.specs.Frames.{size_of}
-use Rattle.keeper_channel.specs.Chan.{channel_room}
 use Rattle.keeper_channel.proofs.Slots.{live_now, by_name}
 use Rattle.keeper_channel.specs.declared.refused.KeeperRefused.TheVariants.{Full, Damaged}
 use Rattle.keeper_channel.proofs.Results.{err_of}

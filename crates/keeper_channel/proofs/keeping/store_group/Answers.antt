@@ -1,4 +1,4 @@
-use Rattle.std.proofs.Common.{◌≡◌, ◌∙◌, inl, inr, ℕ, ◌+◌, ◌++◌, List, length, false, true, IsTrue, refl, sym, subst, ap}
+use Rattle.std.proofs.Common.{◌≡◌, ◌∙◌, inl, ℕ, ◌+◌, ◌++◌, List, length, false, true, IsTrue, sym, subst, ap}
 use Rattle.disk_volume.specs.Lemmas.Since.{now_alone}
 use Rattle.disk_volume.specs.Moments.{still}
 use Rattle.log_format.specs.declared.form.Form.TheVariants.{One, Two}

@@ -1,4 +1,4 @@
-use Rattle.std.proofs.Common.{◌≡◌, ◌-◌, ◌<◌, arith, ◌∙◌, ◌⊎◌, inl, inr, true, false, List, ℕ, Option, None, Some, Result, Ok, Err, IfErr, refl, sym, ap, subst}
+use Rattle.std.proofs.Common.{◌≡◌, ◌-◌, ◌<◌, arith, ◌∙◌, inl, inr, true, false, List, ℕ, Option, None, Some, Result, Ok, Err, IfErr, refl, sym, ap, subst}
 use Rattle.std.proofs.lemmas.Result.{IfOk-weaker, on_ok_weaker, err_from_is_err_and}
 use Rattle.disk_volume.specs.Disk.{Disk, reads, IsImage}
 use Rattle.disk_volume.specs.Moments.{Grew, OnlySyncs, EachSince}

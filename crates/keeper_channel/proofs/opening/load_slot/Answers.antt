@@ -1,15 +1,13 @@
-use Rattle.std.proofs.Common.{◌≡◌, ◌∙◌, inl, inr, ℕ, ◌<◌, arith, List, take, Some, IsTrue, refl, sym, ap, subst}
-use Rattle.std.proofs.lemmas.Result.{IfOk-weaker, err_from_is_err_and}
-use Rattle.disk_volume.specs.Disk.{Disk, reads, IsImage}
-use Rattle.disk_volume.specs.Moments.{Grew, OnlySyncs, EachSince}
+use Rattle.std.proofs.Common.{◌≡◌, inl, inr, ℕ, List, IsTrue, sym, subst}
+use Rattle.std.proofs.lemmas.Result.{err_from_is_err_and}
+use Rattle.disk_volume.specs.Disk.{Disk, reads}
 use Rattle.log_format.specs.declared.damage.Damage.{Damage}
 use Rattle.log_format.specs.declared.damage.Damage.TheVariants.{Entry}
 use Rattle.log_format.specs.declared.form.Form.TheVariants.{One, Two}
 use Rattle.gated_log.specs.declared.refused.LoadRefused.{LoadRefused}
 use Rattle.gated_log.specs.declared.refused.LoadRefused.TheVariants.{Store, Damaged, NoMemory}
-use Rattle.keeper_channel.specs.Chan.{IsList}
 use Rattle.keeper_channel.specs.Entries.{IsFirstOther, AreEntries}
-use Rattle.keeper_channel.specs.Logs.{IsDamaged, NamesDamage, IsLive}
+use Rattle.keeper_channel.specs.Logs.{NamesDamage, IsLive}
 use Rattle.keeper_channel.specs.Slot.{HasDamage}
 use Rattle.keeper_channel.proofs.Chans.{list_once, found_list, entry_at}
 use Rattle.keeper_channel.proofs.CallerLemmas.{logs_weaker}

@@ -1,7 +1,6 @@
 use Rattle.std.proofs.Common.{◌≡◌, ◌∙◌, ℕ, ◌+◌, List, Some, arith, sym, ap, subst}
 use Rattle.std.specs.Prelude.{slice_get}
 use Rattle.std.proofs.lemmas.Result.{IfOk-weaker}
-use Rattle.keeper_channel.specs.Chan.{unmarked, moved}
 use Rattle.keeper_channel.proofs.Chans.{moved_get}
 use Rattle.keeper_channel.proofs.Slots.{entry_of, few_entries}
 use Rattle.keeper_channel.proofs.reading.read_payload.Goals as goal

@@ -1,4 +1,3 @@
-use Rattle.std.proofs.Common.{List, ℕ}
 use Rattle.disk_volume.specs.Lemmas.Since.{grew_within}
 use Rattle.std.proofs.Common.{inr}
 use Rattle.keeper_channel.proofs.stores.store_slot.Goals as goal

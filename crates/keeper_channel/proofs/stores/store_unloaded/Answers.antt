@@ -1,4 +1,4 @@
-use Rattle.std.proofs.Common.{◌≡◌, ◌∙◌, ◌⊎◌, inl, inr, List, ℕ, Err, IsErrOf, refl, sym, ap}
+use Rattle.std.proofs.Common.{◌≡◌, ◌∙◌, ◌⊎◌, inl, inr, List, ℕ, refl, sym, ap}
 use Rattle.disk_volume.specs.Lemmas.Since.{each_then, grew_then, grew_within}
 use Rattle.log_format.specs.declared.damage.Damage.{Damage}
 use Rattle.log_format.specs.declared.form.Form.TheVariants.{One, Two}
@@ -8,7 +8,6 @@ use Rattle.keeper_channel.specs.Chan.{IsList, IsWithin}
 use Rattle.keeper_channel.specs.Logs.{NamesDamage}
 use Rattle.keeper_channel.specs.Slot.{NamesIt}
 use Rattle.keeper_channel.specs.Inside.Refusals.{refused_by}
-use Rattle.keeper_channel.specs.declared.refused.KeeperRefused.{KeeperRefused}
 use Rattle.keeper_channel.specs.declared.refused.KeeperRefused.TheVariants.{Store, Damaged, NoMemory}
 use Rattle.keeper_channel.proofs.Results.{same_refusal}
 use Rattle.keeper_channel.proofs.Stays.{syncs_within}

@@ -1,4 +1,4 @@
-use Rattle.std.proofs.Common.{◌≡◌, ◌∙◌, ◌⊎◌, inl, inr, Bool, false, refl, List, ℕ, [], ◌∷◌, ◌++◌, sym, ap, subst, length, arith}
+use Rattle.std.proofs.Common.{◌≡◌, ◌∙◌, inl, inr, Bool, false, refl, List, ℕ, [], ◌++◌, sym, ap, subst, length, arith}
 use Rattle.disk_volume.specs.Disk.{reads}
 use Rattle.disk_volume.specs.Moments.{EachSince, EachNow, still}
 use Rattle.disk_volume.specs.Lemmas.Since.{now_alone}
