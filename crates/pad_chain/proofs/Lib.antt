@@ -27,3 +27,4 @@ mod Arms
 mod PathMarks
 mod Settled
 mod Adding
+mod NoCut

@@ -26,7 +26,7 @@ use Rattle.pad_chain.specs.Inside.Marks.{marks_from}
 use Rattle.pad_chain.proofs.Ends.{many_undos}
 use Rattle.pad_chain.proofs.PathMarks.{marks_of_path}
 
-no_front : (xs root : List Message) → xs ++ root ≡ root → xs ≡ []
+pub no_front : (xs root : List Message) → xs ++ root ≡ root → xs ≡ []
 no_front [] root e = refl
 no_front (x ∷ xs) root e = absurd (omega (arith, ap length e, length-append xs root))
 

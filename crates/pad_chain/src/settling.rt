@@ -1,6 +1,6 @@
 //! How the root of a chain moves, and its branch with it.
 
-ghost use Rattle.std.specs.Prelude.{◌≡◌, ◌≢◌, ◌≤◌, ◌<◌, ◌+◌, ◌^◌, List, [], ◌++◌, length, take, Some, OnOk, OnErr};
+ghost use Rattle.std.specs.Prelude.{◌≡◌, ◌≢◌, ◌≤◌, ◌<◌, ◌+◌, ◌^◌, List, [], ◌++◌, true, length, reverse, take, Some, OnOk, OnErr};
 ghost use Rattle.std.specs.BTreeMap.{get};
 ghost use Rattle.pad_text.specs.declared.name.Name.{Name};
 ghost use Rattle.pad_message.specs.declared.message.Message.{Message};
@@ -10,7 +10,7 @@ ghost use Rattle.pad_model.specs.declared.base.Base.{Base};
 ghost use Rattle.pad_checkpoint.specs.Settled.{IsRooted};
 ghost use Rattle.pad_branch.specs.declared.held.Held.{Held};
 ghost use Rattle.pad_branch.specs.Branch.{IsTrunk};
-ghost use Rattle.pad_chain.specs.Inside.Marks.{marks_from};
+ghost use Rattle.pad_chain.specs.Inside.Marks.{marks_from, NoneIsCheckpoint};
 ghost use Rattle.pad_chain.specs.Inside.Receiving.{rising, IsRaised};
 ghost use Rattle.pad_chain.specs.Inside.Tables.{IsSame, AreLetGo};
 
@@ -24,8 +24,21 @@ use pad_text::Name;
 use std::alloc::{AllocError, Global};
 use std::collections::BTreeMap;
 
+/// Whether none of these takes back a checkpoint.
+fn no_checkpoint(undos: &[Undo]) -> bool
+    ensures { result ≡ true → NoneIsCheckpoint (reverse undos.now) }
+{
+    for undo in undos {
+        if undo.kind.is_checkpoint() {
+            return false;
+        }
+    }
+    true
+}
+
 /// Moves the root up to the cut of a path, but in a chain that never truncates. The path has the first `keep` messages of the
-/// branch, and then those that come. Graph and root are unchanged where there is no memory.
+/// branch, and then those that come. It only looks for the cut where a checkpoint comes: else the root stays. Graph and root are
+/// unchanged where there is no memory.
 pub(crate) fn settle<S: UnitStore>(
     alloc: Global,
     graph: &mut Graph,
@@ -39,6 +52,7 @@ pub(crate) fn settle<S: UnitStore>(
     requires few { branch.now.branch.low + keep + length come.now + 1 < 2 ^ 64 }
     ensures raised { OnOk result ((base : Base) (received root path : List Message) (links : List Link)
         → IsRooted base received root path links pruning.old.root (marks_from branch.now.branch.low (take keep branch.now.branch.undos ++ come.now)) (state_of graph.old)
+        → (NoneIsCheckpoint (reverse come.now) → rising whole path ≡ [])
         → IsRaised base links root (rising whole path) pruning.new.root (state_of graph.new)) }
     ensures overtaken { pruning.new.overtaken ≡ pruning.old.overtaken }
     ensures same_root { OnErr result (pruning.new ≡ pruning.old) }
@@ -46,6 +60,9 @@ pub(crate) fn settle<S: UnitStore>(
 {
     roots_rise_to_cuts_above();
     if whole {
+        return Ok(());
+    }
+    if no_checkpoint(come) {
         return Ok(());
     }
     let stay = &branch.undos()[..keep];

@@ -30,8 +30,8 @@ use crate::receive_refused::ReceiveRefused;
 use crate::settling::{rise, settle};
 use crate::tables::{has_mark, hold_added, knows_few, let_go, mark_all, note};
 use pad_branch::{
-    Branch, Plan, Won, applied, found_above, found_stays, known_above, marks_pass, stays_known,
-    trunk_stays,
+    Branch, Plan, Won, applied, found_above, found_stays, known_above, marks_pass, root_stays,
+    stays_known, trunk_stays,
 };
 use pad_checkpoint::{Place, roots_rise_to_cuts_above};
 use pad_graph::{Added, Linking, Linkings};
@@ -65,8 +65,8 @@ fn add_found(found: &mut Vec<Name>, more: Vec<Name>)
 }
 
 impl<S: UnitStore> Chain<S> {
-    /// Receives a message, and tells how the best chain changed. `Full` comes exactly where its name is new and as many names
-    /// are known as there may be. A chain that refused a message stands for what it stood for.
+    /// Receives a message, and tells how the best chain changed. `Full` comes only where its name is new and as many names are
+    /// known as there may be. A chain that refused a message stands for what it stood for.
     pub fn receive<L: Ledger>(
         &mut self,
         alloc: Global,
@@ -84,7 +84,7 @@ impl<S: UnitStore> Chain<S> {
         self.receive_named(alloc, name, message, steps)
     }
 
-    /// The same, where the message's name is at hand.
+    /// The same, where the message's name is at hand. `Full` comes wherever it can.
     pub fn receive_named<L: Ledger>(
         &mut self,
         alloc: Global,
@@ -261,6 +261,8 @@ impl<S: UnitStore> Chain<S> {
         ensures untouched { OnErr result (IsUntouched self.old self.new) }
         ensures whole { self.new.whole ≡ self.old.whole }
     {
+        repeat_changes_no_choice();
+        root_stays();
         roots_rise_to_cuts_above();
         known_above();
         found_above();

@@ -8,12 +8,17 @@ use Rattle.pad_chain.proofs.Settled.{raised_none, raised_to}
 use Rattle.pad_chain.proofs.settling.settle.Goals as goal
 
 pub returns-then-whole-clause-raised : goal.returns-then-whole-clause-raised
-returns-then-whole-clause-raised g c b R root path links r =
+returns-then-whole-clause-raised g c b R root path links r quiet =
     subst (λ w. IsRaised b links root (rising w path) c.args.pruning.now.root (state_of c.args.graph.now)) (sym c.if-whole.true)
     (raised_none b R root path links c.args.pruning.now.root _ (state_of c.args.graph.now) r)
 
+pub returns-then-no_checkpoint-clause-raised : goal.returns-then-no_checkpoint-clause-raised
+returns-then-no_checkpoint-clause-raised g c b R root path links r quiet =
+    subst (λ q. IsRaised b links root q c.args.pruning.now.root (state_of c.args.graph.now)) (sym (quiet (c.no_checkpoint.ensures c.if-no_checkpoint.true)))
+    (raised_none b R root path links c.args.pruning.now.root _ (state_of c.args.graph.now) r)
+
 pub returns-clause-raised : goal.returns-clause-raised
-returns-clause-raised g c b R root path links r =
+returns-clause-raised g c b R root path links r quiet =
     let low = c.args.branch.now.branch.low in
     let marks_are : c.in_ok-marks.marks ≡ marks_from low (take c.args.keep c.args.branch.now.branch.undos ++ c.args.come.now) =
     c.in_ok-marks.ensures ∙ ap (λ n. marks_from n (take c.args.keep c.undos.result.now ++ c.args.come.now)) c.root_height.ensures ∙ ap (λ (us : List Undo). marks_from low (take c.args.keep us ++ c.args.come.now)) c.undos.ensures.are in

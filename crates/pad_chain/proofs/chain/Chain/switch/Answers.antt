@@ -12,11 +12,12 @@ use Rattle.pad_branch.specs.Move.{move_back, move_on}
 use Rattle.pad_branch.specs.Branch.{State, IsTrunk, switched}
 use Rattle.pad_checkpoint.specs.Settled.{IsRooted}
 use Rattle.pad_checkpoint.specs.Links.{link_of}
-use Rattle.pad_chain.specs.Inside.Marks.{marks_from}
+use Rattle.pad_chain.specs.Inside.Marks.{marks_from, NoneIsCheckpoint}
 use Rattle.pad_chain.specs.Inside.Receiving.{Switches}
 use Rattle.pad_chain.proofs.Arms.{fewer_held}
 use Rattle.pad_chain.proofs.Noting.{noted_held}
 use Rattle.pad_chain.proofs.Settled.{rooted}
+use Rattle.pad_chain.proofs.NoCut.{no_rise}
 use Rattle.pad_chain.proofs.Received.{won_received}
 use Rattle.pad_chain.proofs.chain.Chain.switch.Goals as goal
 
@@ -43,7 +44,8 @@ returns-clause-received g c =
     subst (λ (v : View). Switches v new c.args.pathless (reverse c.args.found.items) won.keep come units (record { reverted = c.new.result; applied = c.new-2.result })) c.self.view_is
     (λ before b R m choice linkings path out best is_won.
     let marks_are = ap (λ (s : State). marks_from s.low (take won.keep s.undos ++ c.as_slice-2.result.now)) here ∙ ap (λ (us : List Undo). marks_from br.low (take won.keep br.undos ++ us)) c.as_slice-2.ensures.value in
-    let raised = c.in_ok-settle.ensures.raised b (m ∷ R) choice.root path (link_of m ∷ out.joining.adding.stood.links) (subst (λ ms. IsRooted b (m ∷ R) choice.root path (link_of m ∷ out.joining.adding.stood.links) i.pruning.root ms (state_of i.graph)) (sym marks_are) (rooted before old b R m choice linkings out.joining path won.keep come units (held_of old) is_won)) in
+    let quiet = λ (none : NoneIsCheckpoint (reverse c.as_slice-2.result.now)). no_rise before old b R m choice linkings out.joining out.ready.trunk path won.keep come units (held_of old) is_won (subst (λ (us : List Undo). NoneIsCheckpoint (reverse us)) c.as_slice-2.ensures.value none) c.root_stays.ensures c.repeat_changes_no_choice.ensures c.roots_rise_to_cuts_above.ensures in
+    let raised = c.in_ok-settle.ensures.raised b (m ∷ R) choice.root path (link_of m ∷ out.joining.adding.stood.links) (subst (λ ms. IsRooted b (m ∷ R) choice.root path (link_of m ∷ out.joining.adding.stood.links) i.pruning.root ms (state_of i.graph)) (sym marks_are) (rooted before old b R m choice linkings out.joining path won.keep come units (held_of old) is_won)) quiet in
     won_received before old b R m choice linkings out.joining out.ready c.args.pathless (reverse c.args.found.items ++ before.found) out.knows out.are new (record { reverted = c.new.result; applied = c.new-2.result }) refl (added ∙ ap (λ (xs : List Name). reverse c.args.found.items ++ xs) out.joining.found)
     path best won.keep come units is_won (get name_cmp c.rise.new.messages) raised c.in_ok-settle.ensures.overtaken
     (λ upper joined trunk at. c.rise.ensures.raised b (m ∷ R) choice.root upper joined (subst (IsTrunk b (m ∷ R) choice.root (upper ++ joined)) (sym switched_is) trunk) at)
