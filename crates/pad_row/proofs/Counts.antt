@@ -39,26 +39,23 @@ in_row-append mark xs ys = ap (how_often mark) (somes-append xs ys) ∙ how_ofte
 in_row-drop : (mark : Mark) (n : ℕ) (row : Row) → in_row mark (drop n row) ≤ in_row mark row
 in_row-drop mark n row = omega (arith, in_row-append mark (take n row) (drop n row), ap (in_row mark) (take-append-drop n row))
 
--- a copied row has a mark no more often than the row and the new entries together
-copied_often : (mark : Mark) (row entries : Row) (place size : ℕ) (operations : List Operation) → IsLaid place size operations
-    → in_row mark (patched_pieces row entries (pieces_from place size operations)) ≤ in_row mark (drop place row) + in_row mark entries
-copied_often mark row entries place size [] laid_out =
-    let kept = part place size row in
-    omega (arith, ap (in_row mark) (append-nil kept), in_row-append mark kept (drop (size - place) (drop place row)), ap (in_row mark) (take-append-drop (size - place) (drop place row)))
-copied_often mark row entries place size (operation ∷ operations) (starts, inside, rest) =
+-- what one operation does: it keeps a part of the row, removes the next part, and puts new entries in
+step_often : (mark : Mark) (row entries later : Row) (place : ℕ) (operation : Operation) → place ≤ operation.offset
+    → in_row mark (part place operation.offset row ++ (take (length operation.insert) entries ++ later)) + in_row mark (part operation.offset (end_of operation) row)
+    + (in_row mark (drop (end_of operation) row) + in_row mark (drop (length operation.insert) entries))
+    ≡ (in_row mark (drop place row) + in_row mark entries) + in_row mark later
+step_often mark row entries later place operation starts =
     let count = length operation.insert in
     let end = end_of operation in
     let kept = part place operation.offset row in
     let news = take count entries in
     let left = drop count entries in
-    let later = patched_pieces row left (pieces_from end size operations) in
     let order : operation.offset ≤ end = omega arith in
     let out = part operation.offset end row in
     omega (
       arith,
       in_row-append mark kept (news ++ later),
       in_row-append mark news later,
-      copied_often mark row left end size operations rest,
       in_row-append mark kept (drop operation.offset row),
       ap (in_row mark) (range-drop place operation.offset row starts),
       in_row-append mark out (drop end row),
@@ -66,6 +63,18 @@ copied_often mark row entries place size (operation ∷ operations) (starts, ins
       in_row-append mark news left,
       ap (in_row mark) (take-append-drop count entries),
     )
+
+-- a copied row has a mark no more often than the row and the new entries together
+copied_often : (mark : Mark) (row entries : Row) (place size : ℕ) (operations : List Operation) → IsLaid place size operations
+    → in_row mark (patched_pieces row entries (pieces_from place size operations)) ≤ in_row mark (drop place row) + in_row mark entries
+copied_often mark row entries place size [] laid_out =
+    let kept = part place size row in
+    omega (arith, ap (in_row mark) (append-nil kept), in_row-append mark kept (drop (size - place) (drop place row)), ap (in_row mark) (take-append-drop (size - place) (drop place row)))
+copied_often mark row entries place size (operation ∷ operations) (starts, inside, rest) =
+    let end = end_of operation in
+    let left = drop (length operation.insert) entries in
+    let later = patched_pieces row left (pieces_from end size operations) in
+    omega (arith, step_often mark row entries later place operation starts, copied_often mark row left end size operations rest)
 
 pub row_often : (mark : Mark) (row entries : Row) (size : ℕ) (operations : List Operation) → IsLaid 0 size operations
     → in_row mark (patched_pieces row entries (pieces_from 0 size operations)) ≤ in_row mark row + in_row mark entries
@@ -81,24 +90,13 @@ all_of mark row (entry ∷ entries) place size [] laid_out long counted = absurd
 all_of mark row entries place size (operation ∷ operations) (starts, inside, rest) long counted =
     let count = length operation.insert in
     let end = end_of operation in
-    let kept = part place operation.offset row in
-    let news = take count entries in
     let left = drop count entries in
     let later = patched_pieces row left (pieces_from end size operations) in
-    let order : operation.offset ≤ end = omega arith in
-    let out = part operation.offset end row in
     omega (
       arith,
-      in_row-append mark kept (news ++ later),
-      in_row-append mark news later,
+      step_often mark row entries later place operation starts,
+      in_row-append mark (part operation.offset end row) (removed_by operations row),
       all_of mark row left end size operations rest long (omega (arith, counted, length-append operation.insert (insertions operations), length-drop count entries)),
-      in_row-append mark out (removed_by operations row),
-      in_row-append mark kept (drop operation.offset row),
-      ap (in_row mark) (range-drop place operation.offset row starts),
-      in_row-append mark out (drop end row),
-      ap (in_row mark) (range-drop operation.offset end row order),
-      in_row-append mark news left,
-      ap (in_row mark) (take-append-drop count entries),
     )
 
 pub row_counts : RowCounts

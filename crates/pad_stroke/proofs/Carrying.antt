@@ -89,21 +89,23 @@ joint_later operation joint operations found = record {
   ends = found.ends;
 }
 
+-- an operation alone is joined of itself
+joint_alone : (operation joint : Operation) (operations : List Operation) → operation ≡ joint → IsJoint (operation ∷ operations) joint
+joint_alone operation joint operations same = record {
+  first_index = 0;
+  first = operation;
+  first_is = refl;
+  starts = ap (λ (o : Operation). o.offset) (sym same);
+  last_index = 0;
+  last = operation;
+  last_is = refl;
+  ends = ap end_of (sym same);
+}
+
 joint_in_front : (operation : Operation) (operations later : List Operation)
     → ((index : ℕ) (joint : Operation) → slice_get later index ≡ Some joint → IsJoint operations joint)
     → (index : ℕ) (joint : Operation) → slice_get (in_front operation later) index ≡ Some joint → IsJoint (operation ∷ operations) joint
-joint_in_front operation operations [] found zero joint is =
-    let same : operation ≡ joint = cc in
-    record {
-      first_index = 0;
-      first = operation;
-      first_is = refl;
-      starts = ap (λ (o : Operation). o.offset) (sym same);
-      last_index = 0;
-      last = operation;
-      last_is = refl;
-      ends = ap end_of (sym same);
-    }
+joint_in_front operation operations [] found zero joint is = joint_alone operation joint operations cc
 joint_in_front operation operations [] found (suc index) joint is = cc
 joint_in_front operation operations (next ∷ later) found index joint is =
     joint_by operation operations next later found index joint (front_cases operation next later) is
@@ -129,18 +131,7 @@ joint_in_front operation operations (next ∷ later) found index joint is =
     joint_apart : (operation : Operation) (operations later : List Operation)
         → ((index : ℕ) (joint : Operation) → slice_get later index ≡ Some joint → IsJoint operations joint)
         → (index : ℕ) (joint : Operation) → slice_get (operation ∷ later) index ≡ Some joint → IsJoint (operation ∷ operations) joint
-    joint_apart operation operations later found zero joint is =
-        let same : operation ≡ joint = cc in
-        record {
-          first_index = 0;
-          first = operation;
-          first_is = refl;
-          starts = ap (λ (o : Operation). o.offset) (sym same);
-          last_index = 0;
-          last = operation;
-          last_is = refl;
-          ends = ap end_of (sym same);
-        }
+    joint_apart operation operations later found zero joint is = joint_alone operation joint operations cc
     joint_apart operation operations later found (suc index) joint is = joint_later operation joint operations (found index joint is)
 
     joint_by : (operation : Operation) (operations : List Operation) (next : Operation) (later : List Operation)

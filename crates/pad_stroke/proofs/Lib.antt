@@ -2,6 +2,7 @@ pub mod Joints
 pub mod Normal
 pub mod Carrying
 pub mod Search
+pub mod Once
 pub mod Stripped
 pub mod Turns
 pub mod MarkLaws

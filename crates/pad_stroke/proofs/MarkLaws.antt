@@ -1,7 +1,7 @@
 -- The laws of marks.
 use Rattle.std.proofs.Common.{◌≡◌, ℕ, zero, suc, ◌+◌, ◌<◌, ◌⊎◌, inl, inr, Bool, true, false, cond, ◌&&◌, ◌==◌, List, [], ◌∷◌, length, map, slice_index_or, refl, sym, ◌∙◌, ap, subst, arith}
-use Rattle.std.specs.Prelude.{◌≢◌, ◌||◌, not, filter, count_by, Contains}
-use Rattle.std.specs.List.{AllPairs, list_any}
+use Rattle.std.specs.Prelude.{◌||◌, not, filter, count_by, Contains}
+use Rattle.std.specs.List.{list_any}
 use Rattle.std.proofs.lemmas.Bool.{eqb-true, eq-eqb}
 use Rattle.std.proofs.lemmas.List.Sums.{sum_by-cons}
 use Rattle.std.proofs.lemmas.List.{length-map, get_or-map, get_or_default}
@@ -105,12 +105,6 @@ stripped_marks work of mark = (
   (λ both. filter_in (stays of.marks) work.marks mark both.0 (stays_none of.marks mark both.1)),
 )
 
-repeats_not : (x : Mark) (xs : List Mark) → AllPairs (λ earlier later. earlier ≢ later) (x ∷ xs) → ¬ (Contains xs x)
-repeats_not x xs different (k, below, is) = different 0 (suc k) x (omega arith) (omega arith) (sym is)
-
-different_tail : (x : Mark) (xs : List Mark) → AllPairs (λ earlier later. earlier ≢ later) (x ∷ xs) → AllPairs (λ earlier later. earlier ≢ later) xs
-different_tail x xs different i j default order below same = different (suc i) (suc j) default (omega arith) (omega arith) same
-
 abbrev times : List Mark → Mark → ℕ
 times marks mark = count_by (λ other. same_mark other mark) marks
 
@@ -120,25 +114,25 @@ times_head x xs mark = sum_by-cons (λ other. cond (same_mark other mark) 1 0) x
 abbrev StandsOnce : List Mark → Mark → Type 0
 StandsOnce marks mark = (Contains marks mark × (times marks mark ≡ 1)) ⊎ (¬ (Contains marks mark) × (times marks mark ≡ 0))
 
-once_by : (x : Mark) (xs : List Mark) (mark : Mark) → AllPairs (λ earlier later. earlier ≢ later) (x ∷ xs) → StandsOnce xs mark → (t : Bool) → same_mark x mark ≡ t → StandsOnce (x ∷ xs) mark
-once_by x xs mark different (inl there) true is =
+once_by : (x : Mark) (xs : List Mark) (mark : Mark) → ¬ (Contains xs x) → StandsOnce xs mark → (t : Bool) → same_mark x mark ≡ t → StandsOnce (x ∷ xs) mark
+once_by x xs mark other (inl there) true is =
     let here : x ≡ mark = same_true x mark is in
-    absurd (repeats_not x xs different (subst (Contains xs) (sym here) there.0))
-once_by x xs mark different (inr nowhere) true is =
+    absurd (other (subst (Contains xs) (sym here) there.0))
+once_by x xs mark other (inr nowhere) true is =
     inl (at_head x xs mark (same_true x mark is), times_head x xs mark ∙ ap (λ t. cond t 1 0 + times xs mark) is ∙ ap (λ n. 1 + n) nowhere.1)
-once_by x xs mark different (inl there) false is =
+once_by x xs mark other (inl there) false is =
     inl (in_tail x xs mark there.0, times_head x xs mark ∙ ap (λ t. cond t 1 0 + times xs mark) is ∙ ap (λ n. 0 + n) there.1)
-once_by x xs mark different (inr nowhere) false is =
-    let other : ¬ (x ≡ mark) = λ here. let same : same_mark x mark ≡ true = ap (λ m. same_mark m mark) here ∙ same_self mark in cc in
+once_by x xs mark other (inr nowhere) false is =
+    let not_here : ¬ (x ≡ mark) = λ here. let same : same_mark x mark ≡ true = ap (λ m. same_mark m mark) here ∙ same_self mark in cc in
     inr (
-      (λ contains. elim (head_or_tail x xs mark contains) [ inl here ↦ other here | inr later ↦ nowhere.0 later ]),
+      (λ contains. elim (head_or_tail x xs mark contains) [ inl here ↦ not_here here | inr later ↦ nowhere.0 later ]),
       times_head x xs mark ∙ ap (λ t. cond t 1 0 + times xs mark) is ∙ ap (λ n. 0 + n) nowhere.1,
     )
 
 pub marks_stand_once : MarksStandOnce
-marks_stand_once [] mark different = inr (none_in mark, refl)
-marks_stand_once (x ∷ xs) mark different =
-    once_by x xs mark different (marks_stand_once xs mark (different_tail x xs different)) (same_mark x mark) refl
+marks_stand_once [] mark once = inr (none_in mark, refl)
+marks_stand_once (x ∷ xs) mark once =
+    once_by x xs mark once.0 (marks_stand_once xs mark once.1) (same_mark x mark) refl
 
 comes_by : (first second : List Mark) (origin : Origin) (mark : Mark) → NamesUnit (length first) (length second) origin → mark_from first second origin ≡ mark → Contains first mark ⊎ Contains second mark
 comes_by first second (First place) mark named is = inl (subst (Contains first) is (contains_at first place named))

@@ -12,10 +12,11 @@ use Rattle.pad_patch.specs.Misfit.{CanApply}
 use Rattle.pad_stroke.specs.declared.mark.Mark.{Mark}
 use Rattle.pad_stroke.specs.Strip.{stays, staying, thinned, is_needed, stripped}
 use Rattle.pad_merge.specs.Merge.{IsNormal}
-use Rattle.pad_stroke.specs.Mark.{NoRepeat}
+use Rattle.pad_list.specs.Number.{NoRepeat}
 use Rattle.pad_stroke.specs.Work.{Marked, IsWork}
 use Rattle.pad_merge.proofs.CallerLemmas.{IsSpaced, spaced_normal, normal_spaced}
 use Rattle.pad_stroke.proofs.Normal.{ordered_normal}
+use Rattle.pad_stroke.proofs.Once.{by_places, from_places}
 
 -- an element and those behind it
 pub next_of : {X : Type 0} (xs : List X) (i : ℕ) (x : X) → i < length xs → x ≡ get_or xs i x → drop i xs ≡ x ∷ drop (i + 1) xs
@@ -182,7 +183,8 @@ all_filter (operation ∷ operations) all =
 -- no mark stands twice in a stripped work if none did before
 pub NoRepeat-stripped : (work of : Marked) → NoRepeat work.marks → NoRepeat (stripped work of).marks
 unfolding stripped
-NoRepeat-stripped work of different = AllPairs-filter (λ earlier later. earlier ≢ later) (stays of.marks) work.marks different
+NoRepeat-stripped work of once =
+    from_places (filter (stays of.marks) work.marks) (AllPairs-filter (λ earlier later. earlier ≢ later) (stays of.marks) work.marks (by_places work.marks once))
 
 -- a stripped work is a work
 pub IsWork-stripped : (work of : Marked) → IsWork work → All InsertsText (thinned of.marks work.patch.ops work.marks) → IsWork (stripped work of)

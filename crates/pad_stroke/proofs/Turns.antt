@@ -19,17 +19,19 @@ use Rattle.pad_merge.specs.Origin.{origins, named_unit}
 use Rattle.pad_merge.proofs.CallerLemmas.{texts-merged}
 use Rattle.pad_merge.specs.Laws.{OneOriginEach, OriginsNameUnits, NoOriginTwice}
 use Rattle.pad_stroke.specs.declared.mark.Mark.{Mark}
-use Rattle.pad_stroke.specs.Mark.{NoRepeat, NoneInBoth, marks_of}
+use Rattle.pad_list.specs.Number.{NoRepeat}
+use Rattle.pad_stroke.specs.Mark.{NoneInBoth, marks_of}
 use Rattle.pad_stroke.specs.InTurn.{no_mark, mark_from, NamesUnit, in_turn}
 use Rattle.pad_stroke.specs.Work.{Marked, IsWork}
 use Rattle.pad_stroke.specs.Edit.{shown_after, IsAllowed, typed}
+use Rattle.pad_stroke.proofs.Once.{by_places, from_places}
 
 -- a mark stands at one place alone
 one_place : (marks : List Mark) (i j : ℕ) → NoRepeat marks → i < length marks → j < length marks → slice_index_or marks i no_mark ≡ slice_index_or marks j no_mark → i ≡ j
-one_place marks i j different within_i within_j same = elim (cases_lt i j) [
-  | inl before ↦ absurd (different i j no_mark before within_j same)
+one_place marks i j once within_i within_j same = elim (cases_lt i j) [
+  | inl before ↦ absurd (by_places marks once i j no_mark before within_j same)
   | inr not_before ↦ elim (cases_lt j i) [
-    | inl behind ↦ absurd (different j i no_mark behind within_i (sym same))
+    | inl behind ↦ absurd (by_places marks once j i no_mark behind within_i (sym same))
     | inr not_behind ↦ omega arith
   ]
 ]
@@ -63,9 +65,10 @@ module _ (first second : Marked) (size : ℕ) (names : OriginsNameUnits) (counte
 
   pub NoRepeat-in_turn : NoOriginTwice → CanMerge first.patch second.patch size → NoRepeat first.marks → NoRepeat second.marks → NoneInBoth first.marks second.marks
       → NoRepeat (map (mark_from first.marks second.marks) (origins first.patch second.patch size))
-  NoRepeat-in_turn once can once_first once_second apart i j default order below same =
+  NoRepeat-in_turn once can once_first once_second apart =
       let os = origins first.patch second.patch size in
       let f = mark_from first.marks second.marks in
+      from_places (map f os) (λ i j default order below same.
       let past = First 0 in
       let a = slice_index_or os i past in
       let b = slice_index_or os j past in
@@ -75,7 +78,7 @@ module _ (first second : Marked) (size : ℕ) (names : OriginsNameUnits) (counte
       let read_j = get_or-map f os j past default within_j in
       let equal : a ≡ b = same_origin first.marks second.marks once_first once_second apart a b (all_named i past within_i) (all_named j past within_j) (sym read_i ∙ same ∙ read_j) in
       let twice = once first.patch second.patch size can i j a (slice_get-get_or os i past within_i) (slice_get-get_or os j past within_j ∙ ap Some (sym equal)) in
-      absurd (omega arith)
+      absurd (omega arith))
 
   pub IsWork-in_turn : OneOriginEach → IsNormal (merged first.patch second.patch size) → CanMerge first.patch second.patch size
       → All (λ (operation : Operation). IsText operation.insert) first.patch.ops → All (λ (operation : Operation). IsText operation.insert) second.patch.ops → IsWork (in_turn first second size)
@@ -106,11 +109,11 @@ read_mark : (stroke count i : ℕ) (default : Mark) → i < count → slice_inde
 read_mark stroke count i default below = get_or-map-range_with_len (mark_at stroke) 0 count i i default below (omega arith)
 
 pub NoRepeat-marks_of : (stroke count : ℕ) → NoRepeat (marks_of stroke count)
-NoRepeat-marks_of stroke count i j default order below same =
+NoRepeat-marks_of stroke count = from_places (marks_of stroke count) (λ i j default order below same.
     let within : j < count = omega (arith, length-marks_of stroke count) in
     let equal : mark_at stroke i ≡ mark_at stroke j = sym (read_mark stroke count i default (omega arith)) ∙ same ∙ read_mark stroke count j default within in
     let places : i ≡ j = ap (λ (m : Mark). m.index) equal in
-    absurd (omega arith)
+    absurd (omega arith))
 
 -- a new stroke has no mark of the others
 pub NoneInBoth-fresh : (marks : List Mark) (stroke count : ℕ) → All (λ (mark : Mark). mark.stroke ≢ stroke) marks → NoneInBoth marks (marks_of stroke count)

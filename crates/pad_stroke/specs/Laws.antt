@@ -1,6 +1,7 @@
 -- What holds of all works.
 use Rattle.std.specs.Prelude.{◌≡◌, ℕ, ◌+◌, ◌<◌, ◌^◌, ◌⊎◌, ◌↔◌, List, [], ◌++◌, length, map, take, drop, Option, Some, None, replicate, count_by, Contains, All}
 use Rattle.std.specs.List.{filter_map}
+use Rattle.pad_list.specs.Number.{NoRepeat}
 use Rattle.pad_text.specs.Text.{IsText}
 use Rattle.pad_patch.specs.declared.operation.Operation.{Operation}
 use Rattle.pad_patch.specs.declared.patch.Patch.{Patch}
@@ -8,7 +9,7 @@ use Rattle.pad_patch.specs.Piece.{end_of, text_after, inserted}
 use Rattle.pad_transform.specs.Table.{transformed_all}
 use Rattle.pad_transform.specs.Carried.{BothApply}
 use Rattle.pad_stroke.specs.declared.mark.Mark.{Mark}
-use Rattle.pad_stroke.specs.Mark.{NoRepeat, marks_of}
+use Rattle.pad_stroke.specs.Mark.{marks_of}
 use Rattle.pad_stroke.specs.Work.{Marked}
 use Rattle.pad_stroke.specs.Row.{Row, no_marks, shown_row}
 use Rattle.pad_stroke.specs.InTurn.{in_turn}

@@ -1,11 +1,7 @@
 -- Marks of inserted units.
-use Rattle.std.specs.Prelude.{◌≢◌, ℕ, List, map, Contains}
-use Rattle.std.specs.List.{AllPairs, range_with_len}
+use Rattle.std.specs.Prelude.{ℕ, List, map, Contains}
+use Rattle.std.specs.List.{range_with_len}
 use Rattle.pad_stroke.specs.declared.mark.Mark.{Mark}
-
--- no mark stands twice
-abbrev pub NoRepeat : List Mark → Type 0
-NoRepeat marks = AllPairs (λ earlier later. earlier ≢ later) marks
 
 -- no mark stands in both lists
 abbrev pub NoneInBoth : List Mark → List Mark → Type 0

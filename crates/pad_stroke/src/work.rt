@@ -42,7 +42,8 @@ impl Model for Work {
 }
 
 impl Work {
-    ghost use Rattle.pad_stroke.specs.Mark.{NoRepeat, NoneInBoth};
+    ghost use Rattle.pad_list.specs.Number.{NoRepeat};
+    ghost use Rattle.pad_stroke.specs.Mark.{NoneInBoth};
     ghost use Rattle.pad_stroke.specs.Work.{IsWork, empty, moved_to};
     ghost use Rattle.pad_stroke.specs.InTurn.{in_turn};
     ghost use Rattle.pad_stroke.specs.Edit.{IsAllowed, IsCause, shown_after, typed, edited};

@@ -2,7 +2,8 @@ use Rattle.std.proofs.Common.{◌≡◌, ℕ, List, [], ◌∷◌, ◌++◌, len
 use Rattle.pad_patch.specs.declared.patch.Patch.{Patch}
 use Rattle.pad_patch.specs.Piece.{inserted}
 use Rattle.pad_merge.specs.Merge.{CanMerge}
-use Rattle.pad_stroke.specs.Mark.{NoRepeat, NoneInBoth, marks_of}
+use Rattle.pad_list.specs.Number.{NoRepeat}
+use Rattle.pad_stroke.specs.Mark.{NoneInBoth, marks_of}
 use Rattle.pad_stroke.specs.Work.{Marked}
 use Rattle.pad_stroke.specs.Edit.{typed}
 use Rattle.pad_stroke.proofs.Turns.{typed_is, length-typed, NoRepeat-marks_of, NoneInBoth-fresh}

@@ -4,7 +4,8 @@ use Rattle.pad_patch.specs.declared.patch.Patch.{Patch}
 use Rattle.pad_patch.specs.Misfit.{CanApply}
 use Rattle.std.specs.Prelude.{All}
 use Rattle.pad_merge.specs.Merge.{merged, CanMerge, IsNormal}
-use Rattle.pad_stroke.specs.Mark.{NoRepeat, NoneInBoth}
+use Rattle.pad_list.specs.Number.{NoRepeat}
+use Rattle.pad_stroke.specs.Mark.{NoneInBoth}
 use Rattle.pad_stroke.specs.InTurn.{mark_from, NamesUnit, in_turn}
 use Rattle.pad_stroke.specs.Work.{Marked, IsWork}
 use Rattle.pad_stroke.proofs.Turns.{all_named, NoRepeat-in_turn, IsWork-in_turn, in_turn_is}

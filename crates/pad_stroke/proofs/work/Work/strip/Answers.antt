@@ -5,7 +5,7 @@ use Rattle.pad_patch.specs.declared.operation.Operation.{Operation}
 use Rattle.pad_patch.specs.Piece.{inserted, insertions}
 use Rattle.pad_patch.specs.Misfit.{CanApply}
 use Rattle.pad_stroke.specs.Strip.{stays, staying, is_needed, thinned, stripped}
-use Rattle.pad_stroke.specs.Mark.{NoRepeat}
+use Rattle.pad_list.specs.Number.{NoRepeat}
 use Rattle.pad_stroke.specs.Work.{Marked, IsWork}
 use Rattle.pad_stroke.proofs.Stripped.{IsWork-stripped, NoRepeat-stripped, inserted-stripped, CanApply-stripped, stripped_is}
 use Rattle.pad_stroke.proofs.work.Work.strip.Goals as goal

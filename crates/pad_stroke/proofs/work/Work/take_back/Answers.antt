@@ -1,5 +1,6 @@
 use Rattle.std.proofs.Common.{sym, subst}
-use Rattle.pad_stroke.specs.Mark.{NoRepeat, NoneInBoth}
+use Rattle.pad_list.specs.Number.{NoRepeat}
+use Rattle.pad_stroke.specs.Mark.{NoneInBoth}
 use Rattle.pad_stroke.specs.Work.{Marked}
 use Rattle.pad_stroke.proofs.work.Work.take_back.Goals as goal
 
