@@ -45,3 +45,6 @@ pub use reloading::reload;
 pub use room::has_room;
 pub use slot::{Slot, Stored};
 pub use stores::store_slot;
+
+#[cfg(test)]
+mod tests;
