@@ -1,0 +1,4 @@
+pub mod Entry
+pub mod Files
+pub mod Span
+pub mod Table

@@ -1,0 +1,19 @@
+ghost use Rattle.std.specs.Prelude.{◌≡◌, string_bytes, IfOk};
+ghost use Rattle.keeper_log.specs.Files.{file_one, file_two};
+
+use netflux_codec::Channel;
+use std::alloc::{AllocError, Global};
+
+/// The name of a channel's log of form One.
+pub fn old_file_of(alloc: Global, channel: &Channel) -> Result<String, AllocError>
+    ensures { IfOk result (λ name. string_bytes name ≡ file_one channel.now) }
+{
+    format!(in alloc; "{}.padlog", channel.as_str())
+}
+
+/// The name of a channel's log of form Two.
+pub fn file_of(alloc: Global, channel: &Channel) -> Result<String, AllocError>
+    ensures { IfOk result (λ name. string_bytes name ≡ file_two channel.now) }
+{
+    format!(in alloc; "{}.padlog2", channel.as_str())
+}
