@@ -1,0 +1,15 @@
+pub mod Keys
+pub mod Joins
+pub mod Lookups
+pub mod Connections
+pub mod Keyed
+pub mod Ties
+pub mod Partings
+pub mod Closings
+pub mod Named
+pub mod Chosen
+pub mod Targets
+pub mod Deliveries
+pub mod Texts
+pub mod Serving
+pub mod CallerLemmas
