@@ -28,3 +28,8 @@ mod PathMarks
 mod Settled
 mod Adding
 mod NoCut
+mod Short
+mod FromPaths
+mod KeptPaths
+mod Leading
+mod Handing

@@ -1,5 +1,6 @@
 pub mod State
 pub mod Moved
+pub mod Leads
 pub mod Tie
 pub mod Receive
 pub mod Inside

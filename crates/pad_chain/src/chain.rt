@@ -26,6 +26,8 @@ ghost use Rattle.pad_branch.specs.Branch.{tip_of, height_of};
 ghost use Rattle.pad_chain.specs.declared.adopt_refused.AdoptRefused.TheVariants.{NotACheckpoint};
 ghost use Rattle.pad_chain.specs.Tie.{StandsFor};
 
+mod moving;
+
 use crate::adopt_refused::AdoptRefused;
 use pad_branch::{Branch, Held};
 use pad_checkpoint::{Place, Pruning};

@@ -9,7 +9,7 @@ use pad_graph::Standing;
 use pad_message::Message;
 use pad_patch::{Steps, UnitStore, VecUnits};
 use pad_text::Name;
-use std::alloc::Global;
+use std::alloc::{AllocError, Global};
 use std::marker::Brand;
 use std::sync::ledger::{Blank, Ledger};
 use std::test::Fail;
@@ -210,5 +210,38 @@ fn the_lesser_of_two_names_wins_in_any_order(rt: HostRuntime) -> Result<(), Fail
         assert_eq!(rt; (end.left, end.came), (left, came));
         assert_eq!(rt; end.counts, [3, 0, 4, 0, 0]);
     }
+    Ok(())
+}
+
+/// How many messages leave and come on, from the path to this name to a new chain.
+fn moves_to_new<L: Ledger>(
+    alloc: Global,
+    from: &Name,
+    blank: Blank,
+) -> Result<Option<(usize, usize)>, AllocError>
+    requires name { blank.name ≡ L.name }
+    requires parts { blank.parts ≡ L.parts }
+    requires some { 0 < blank.parts }
+{
+    let mut steps = Steps::<L>::new(blank);
+    let chain = Chain::<VecUnits>::whole(alloc)?;
+    match chain.moves_from(alloc, from, &mut steps)? {
+        Some(moved) => Ok(Some((
+            moved.reverted.as_slice().len(),
+            moved.applied.as_slice().len(),
+        ))),
+        None => Ok(None),
+    }
+}
+
+#[test]
+fn a_new_chain_comes_from_its_base_alone(rt: HostRuntime) -> Result<(), Fail> {
+    let alloc = rt.alloc();
+    let other = Name::of_bytes(b"abc");
+    assert_eq!(rt;
+        moves_to_new::<Brand>(alloc, &Name::BASE, Blank::new(1))?,
+        Some((0, 0))
+    );
+    assert_eq!(rt; moves_to_new::<Brand>(alloc, &other, Blank::new(1))?, None);
     Ok(())
 }
