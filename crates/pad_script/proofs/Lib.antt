@@ -1,0 +1,9 @@
+pub mod Spaces
+pub mod Digits
+pub mod Fronts
+pub mod Inserted
+pub mod Words
+pub mod OneMeaning
+pub mod LineLemmas
+pub mod Scripts
+pub mod Few

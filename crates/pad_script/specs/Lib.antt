@@ -1,0 +1,7 @@
+pub mod Parts
+pub mod Act
+pub mod SessionAct
+pub mod Line
+pub mod Script
+pub mod Requests
+pub mod Inside
