@@ -36,7 +36,9 @@ mod storing;
 
 pub use keeping::store_entries;
 pub use laws::{moved_entries_are_the_list, what_follows_a_marker_is_appended};
-pub use laws_of_slots::unloaded_channels_are_kept;
+pub use laws_of_slots::{
+    a_crash_leaves_what_is_kept, other_channels_are_kept, unloaded_channels_are_kept,
+};
 pub use logs::Logs;
 pub use opening::load_slot;
 pub use reading::read_entry;
