@@ -41,3 +41,6 @@ pub use script::{read_script, read_session};
 pub use script_refused::ScriptRefused;
 pub use session_act::{MOST_CLIENTS, SessionAct};
 pub use session_line::read_session_line;
+
+#[cfg(test)]
+mod tests;
