@@ -1,0 +1,19 @@
+-- What a report tells.
+use Rattle.std.specs.Prelude.{ℕ, List}
+use Rattle.pad_model.specs.Report.{ReportValues}
+use Rattle.pad_report.specs.declared.report.Report.{Report}
+
+-- the values of the lines, of a report and the text after the best chain
+abbrev pub values : Report → List ℕ → ReportValues
+values report text = record {
+  best = report.best;
+  height = report.height;
+  units = text;
+  known = report.known;
+  waiting = report.waiting;
+  unreadable = report.unreadable;
+  root = report.root;
+  root_height = report.root_height;
+  kept = report.kept;
+  overtaken = report.overtaken;
+}
