@@ -6,7 +6,7 @@ use Rattle.pad_text.specs.declared.name.Name.{Name}
 use Rattle.pad_message.specs.declared.message.Message.{Message}
 use Rattle.pad_graph.specs.Chain.{Link, top, IsChain, GoesThrough, IsKeptName, IsGoneName}
 use Rattle.pad_list.specs.Number.{IsNumberOf}
-use Rattle.pad_graph.specs.State.{State, standing}
+use Rattle.pad_graph.specs.State.{State, standing, IsHeld}
 use Rattle.pad_graph.specs.declared.standing.Standing.{Standing}
 use Rattle.pad_graph.specs.declared.standing.Standing.TheVariants.{Unknown, Waiting, Linked, Gone}
 use Rattle.pad_graph.specs.Graph.{Stands, IsNewName, IsStanding, AreDropped, IsDropped}
@@ -21,7 +21,7 @@ use Rattle.pad_checkpoint.specs.declared.path_mark.PathMark.{PathMark}
 use Rattle.pad_checkpoint.specs.Place.{place_of}
 use Rattle.pad_checkpoint.specs.Cut.{last_but_one}
 use Rattle.pad_checkpoint.specs.Links.{names_of}
-use Rattle.pad_checkpoint.specs.Settled.{IsRooted, IsSettled}
+use Rattle.pad_checkpoint.specs.Settled.{IsRooted, IsSettled, KeepsLinks}
 use Rattle.pad_checkpoint.proofs.CutLemmas.{higher_is, higher_none, higher_some}
 use Rattle.pad_checkpoint.proofs.LinkLemmas.{top_names, chain_of, through_names}
 
@@ -109,3 +109,18 @@ module _ (b : Base) (R root above : List Message) (links : List Link) (place : P
 pub none_if : (o : Option PathMark) → ((mark : PathMark) → o ≡ Some mark → ⊥) → o ≡ None
 none_if None h = refl
 none_if (Some mark) h = absurd (h mark refl)
+
+-- a graph that stays keeps its links
+pub same_links : (old new : State) → new ≡ old → KeepsLinks old new
+same_links old new same base links root h = (root, subst (λ (s : State). Stands s base links root) (sym same) h)
+
+-- a graph whose root rises to a name that is linked through it keeps its links
+pub risen_links : (name : Name) (old new : State) → IsHeld (standing old name)
+    → ((base : Name) (ls : List Link) (below names : List Name) → Stands old base ls below → IsChain base ls names → top base names ≡ name → Stands new base ls names) → KeepsLinks old new
+risen_links name old new held moves base links root h = go (standing old name) held (h.standings name)
+  where
+    go : (how : Standing) → IsHeld how → IsStanding base links root name how → (next : List Name) × Stands new base links next
+    go Unknown held is = absurd held
+    go Waiting held is = absurd held
+    go (Linked height) held is = (is.0, moves base links root is.0 h is.1 is.2)
+    go (Gone height) held is = absurd held

@@ -1,5 +1,6 @@
 -- How the root moves, and what is dropped with it.
 use Rattle.std.specs.Prelude.{◌≡◌, ◌≢◌, ℕ, List, ◌++◌}
+use Rattle.pad_text.specs.declared.name.Name.{Name}
 use Rattle.pad_message.specs.declared.message.Message.{Message}
 use Rattle.pad_graph.specs.Chain.{Link}
 use Rattle.pad_list.specs.Number.{IsNumberOf}
@@ -26,3 +27,7 @@ pub record IsSettled (base : Base) (links : List Link) (root next : List Message
   pub stands : Stands state base.name links (names_of next)
   pub count : IsNumberOf (IsDropped base.name links (names_of root) (names_of next)) many
   pub lent : next ≢ root → AreDropped base.name links (names_of root) (names_of next) state.dropped
+
+-- the graph stands for the links that it stood for, maybe with another root
+abbrev pub KeepsLinks : State → State → Type 0
+KeepsLinks old new = (base : Name) (links : List Link) (root : List Name) → Stands old base links root → (next : List Name) × Stands new base links next

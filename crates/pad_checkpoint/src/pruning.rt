@@ -1,6 +1,6 @@
 //! The kept root, and the messages that overtook.
 
-ghost use Rattle.std.specs.Prelude.{◌≡◌, ℕ, ◌+◌, ◌-◌, ◌^◌, ◌∷◌, ◌++◌, List, IfOk, OnErr, count_by, min};
+ghost use Rattle.std.specs.Prelude.{◌≡◌, ℕ, ◌+◌, ◌-◌, ◌^◌, ◌∷◌, ◌++◌, List, IfOk, OnOk, OnErr, count_by, min};
 ghost use Rattle.pad_message.specs.declared.message.Message.{Message};
 ghost use Rattle.pad_graph.specs.Chain.{Link};
 ghost use Rattle.pad_graph.specs.State.{state_of};
@@ -11,7 +11,7 @@ ghost use Rattle.pad_model.specs.Choice.{cut, higher, Choice, Overtakes};
 ghost use Rattle.pad_checkpoint.specs.Place.{place_of};
 ghost use Rattle.pad_checkpoint.specs.Links.{AreLinks};
 ghost use Rattle.pad_checkpoint.specs.Below.{betters, AreBelow};
-ghost use Rattle.pad_checkpoint.specs.Settled.{IsRooted, IsSettled};
+ghost use Rattle.pad_checkpoint.specs.Settled.{IsRooted, IsSettled, KeepsLinks};
 
 use crate::cuts::last_but_one;
 use crate::marks::Marks;
@@ -97,6 +97,7 @@ impl Pruning {
     ) -> Result<u64, AllocError>
         ensures settled { IfOk result (λ many. (base : Base) (received root above : List Message) (links : List Link) → IsRooted base received root above links self.old.root path.now (state_of graph.old)
             → IsSettled base links root (higher root (cut (above ++ root))) self.new.root (state_of graph.new) many) }
+        ensures links { OnOk result (KeepsLinks (state_of graph.old) (state_of graph.new)) }
         ensures overtaken { self.new.overtaken ≡ self.old.overtaken }
         ensures same_root { OnErr result (self.new ≡ self.old) }
         ensures same_graph { OnErr result (state_of graph.new ≡ state_of graph.old) }
