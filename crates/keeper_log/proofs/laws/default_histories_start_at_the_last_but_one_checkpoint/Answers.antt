@@ -1,8 +1,0 @@
-use Rattle.std.proofs.Common.{refl}
-use Rattle.std.specs.List.{count_by}
-use Rattle.keeper_log.specs.Span.{has_checkpoint}
-use Rattle.keeper_log.proofs.Starts.{start}
-use Rattle.keeper_log.proofs.laws.default_histories_start_at_the_last_but_one_checkpoint.Goals as goal
-
-pub returns : goal.returns
-returns c payloads = start payloads (count_by has_checkpoint payloads) refl

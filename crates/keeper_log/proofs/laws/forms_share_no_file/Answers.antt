@@ -1,6 +1,0 @@
-use Rattle.keeper_log.specs.Files.{file_two}
-use Rattle.keeper_log.proofs.Begins.{no_shorter}
-use Rattle.keeper_log.proofs.laws.forms_share_no_file.Goals as goal
-
-pub returns : goal.returns
-returns g c channel file owned same = no_shorter channel file (g.met.G.Ledger.owned_named (file_two channel) file owned) same
