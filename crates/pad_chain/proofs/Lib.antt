@@ -33,3 +33,4 @@ mod FromPaths
 mod KeptPaths
 mod Leading
 mod Handing
+mod Knowing

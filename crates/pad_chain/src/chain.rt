@@ -2,7 +2,7 @@
 
 mod receiving;
 
-ghost use Rattle.std.specs.Prelude.{◌≡◌, ◌≤◌, ◌+◌, ◌%◌, ◌^◌, ◌<◌, ◌↔◌, ℕ, List, [], true, false, length, IsTrue, IfOk, IfErr, OnOk};
+ghost use Rattle.std.specs.Prelude.{◌≡◌, ◌≢◌, ◌≤◌, ◌+◌, ◌%◌, ◌^◌, ◌<◌, ◌↔◌, ℕ, List, [], true, false, length, IsTrue, IfOk, IfErr, OnOk};
 ghost use Rattle.pad_text.specs.declared.name.Name.{Name};
 ghost use Rattle.pad_text.specs.Hash.{document_hash};
 ghost use Rattle.pad_patch.specs.Misfit.{longest_text};
@@ -14,6 +14,8 @@ ghost use Rattle.pad_message.specs.Adopt.{CanAdopt, IsAdoptableWith};
 ghost use Rattle.pad_graph.specs.Chain.{Link};
 ghost use Rattle.pad_graph.specs.State as graph;
 ghost use Rattle.pad_graph.specs.Graph.{IsStanding};
+ghost use Rattle.pad_graph.specs.declared.graph.TheConstants.{MOST_NAMES};
+ghost use Rattle.pad_graph.specs.declared.standing.Standing.TheVariants.{Unknown};
 ghost use Rattle.pad_model.specs.declared.base.Base.{Base};
 ghost use Rattle.pad_model.specs.Base.{first_base, Gives};
 ghost use Rattle.pad_model.specs.Path.{text, interval, since_checkpoint};
@@ -25,6 +27,7 @@ ghost use Rattle.pad_checkpoint.specs.Links.{names_of, AreLinks};
 ghost use Rattle.pad_branch.specs.Branch.{tip_of, height_of};
 ghost use Rattle.pad_chain.specs.declared.adopt_refused.AdoptRefused.TheVariants.{NotACheckpoint};
 ghost use Rattle.pad_chain.specs.Tie.{StandsFor};
+ghost use Rattle.pad_chain.specs.Knows.{Knows};
 
 mod moving;
 
@@ -111,21 +114,24 @@ fn is_due(since: u64, interval: u16, height: u64) -> bool
 impl<S: UnitStore> Chain<S> {
     /// The chain of the first base: sixty-four zeros, the empty text, the usual interval.
     pub fn new(alloc: Global) -> Result<Chain<S>, AllocError>
-        ensures { IfOk result (λ chain. StandsFor chain first_base [] first_choice × (chain.whole ≡ false)) }
+        ensures stands { IfOk result (λ chain. StandsFor chain first_base [] first_choice × (chain.whole ≡ false)) }
+        ensures knows { IfOk result (λ chain. Knows chain first_base []) }
     {
         Chain::first(alloc, false)
     }
 
     /// A chain of the first base that never truncates: its root stays the base.
     pub fn whole(alloc: Global) -> Result<Chain<S>, AllocError>
-        ensures { IfOk result (λ chain. StandsFor chain first_base [] first_choice × (chain.whole ≡ true)) }
+        ensures stands { IfOk result (λ chain. StandsFor chain first_base [] first_choice × (chain.whole ≡ true)) }
+        ensures knows { IfOk result (λ chain. Knows chain first_base []) }
     {
         Chain::first(alloc, true)
     }
 
     /// The chain of the first base, to which no message came yet.
     fn first(alloc: Global, whole: bool) -> Result<Chain<S>, AllocError>
-        ensures { IfOk result (λ chain. StandsFor chain first_base [] first_choice × (chain.whole ≡ whole)) }
+        ensures stands { IfOk result (λ chain. StandsFor chain first_base [] first_choice × (chain.whole ≡ whole)) }
+        ensures knows { IfOk result (λ chain. Knows chain first_base []) }
     {
         let base = Base::first(alloc);
         let text = S::from_text(alloc, &base.text)?;
@@ -136,6 +142,7 @@ impl<S: UnitStore> Chain<S> {
     pub fn adopt(alloc: Global, message: &Message) -> Result<Chain<S>, AdoptRefused>
         requires { HasInterval message.now.kind }
         ensures stands { IfOk result (λ chain. ((base : Base) → Gives message.now base → StandsFor chain base [] first_choice) × (chain.whole ≡ false)) }
+        ensures knows { IfOk result (λ chain. (base : Base) → Gives message.now base → Knows chain base []) }
         ensures ok { OnOk result (CanAdopt message.now) }
         ensures refused { IfErr result (λ refused. refused ≡ NotACheckpoint → ¬ (CanAdopt message.now)) }
     {
@@ -160,6 +167,7 @@ impl<S: UnitStore> Chain<S> {
         requires short { length (S.units text) ≤ longest_text }
         requires interval { IsInterval interval }
         ensures stands { IfOk result (λ chain. (base : Base) → base.name ≡ name → base.text ≡ S.units text → base.interval ≡ interval → StandsFor chain base [] first_choice) }
+        ensures knows { IfOk result (λ chain. (base : Base) → base.name ≡ name → Knows chain base []) }
         ensures whole { IfOk result (λ chain. chain.whole ≡ whole) }
     {
         let graph = Graph::new(alloc, name)?;
@@ -227,9 +235,11 @@ impl<S: UnitStore> Chain<S> {
         is_due(tip.since, tip.interval, self.branch.height())
     }
 
-    /// How many different messages came, by name.
+    /// How many different names came, the base's not counted; at most `MOST_NAMES`.
     pub fn known(&self) -> u64
         ensures is { result ≡ self.now.graph.known }
+        ensures few { result ≤ MOST_NAMES }
+        ensures knows { (base : Base) (received : List Message) → Knows self.now base received → IsNumberOf (IsKnown base received) result }
         ensures stands { (base : Base) (received : List Message) (choice : Choice) → StandsFor self.now base received choice → IsNumberOf (IsKnown base received) result }
     {
         self.graph.known()
@@ -269,6 +279,7 @@ impl<S: UnitStore> Chain<S> {
     /// How the message with this name stands.
     pub fn standing(&self, name: &Name) -> Standing
         ensures is { result ≡ graph.standing (graph.state_of self.now.graph) name.now }
+        ensures knows { (base : Base) (received : List Message) → Knows self.now base received → (result ≡ Unknown) ↔ ((name.now ≢ base.name) × ¬ (IsKnown base received name.now)) }
         ensures stands { (base : Base) (received : List Message) (choice : Choice) → StandsFor self.now base received choice → (links : List Link) × AreLinks base received links × IsStanding base.name links (names_of choice.root) name.now result }
     {
         self.graph.standing(name)

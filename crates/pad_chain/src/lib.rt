@@ -22,7 +22,7 @@ mod tables;
 
 pub use adopt_refused::AdoptRefused;
 pub use chain::Chain;
-pub use laws::named_texts_are_met;
+pub use laws::{named_texts_are_met, stood_is_known};
 pub use moved::{Moved, Moves};
 pub use pad_branch::Move;
 pub use receive_refused::ReceiveRefused;

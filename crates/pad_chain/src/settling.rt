@@ -7,7 +7,7 @@ ghost use Rattle.pad_message.specs.declared.message.Message.{Message};
 ghost use Rattle.pad_graph.specs.Chain.{Link};
 ghost use Rattle.pad_graph.specs.State.{name_cmp, state_of};
 ghost use Rattle.pad_model.specs.declared.base.Base.{Base};
-ghost use Rattle.pad_checkpoint.specs.Settled.{IsRooted};
+ghost use Rattle.pad_checkpoint.specs.Settled.{IsRooted, KeepsLinks};
 ghost use Rattle.pad_branch.specs.declared.held.Held.{Held};
 ghost use Rattle.pad_branch.specs.Branch.{IsTrunk};
 ghost use Rattle.pad_chain.specs.Inside.Marks.{marks_from, NoneIsCheckpoint};
@@ -54,6 +54,7 @@ pub(crate) fn settle<S: UnitStore>(
         → IsRooted base received root path links pruning.old.root (marks_from branch.now.branch.low (take keep branch.now.branch.undos ++ come.now)) (state_of graph.old)
         → (NoneIsCheckpoint (reverse come.now) → rising whole path ≡ [])
         → IsRaised base links root (rising whole path) pruning.new.root (state_of graph.new)) }
+    ensures links { OnOk result (KeepsLinks (state_of graph.old) (state_of graph.new)) }
     ensures overtaken { pruning.new.overtaken ≡ pruning.old.overtaken }
     ensures same_root { OnErr result (pruning.new ≡ pruning.old) }
     ensures same_graph { OnErr result (state_of graph.new ≡ state_of graph.old) }

@@ -17,6 +17,7 @@ use Rattle.pad_model.specs.Choice.{cut, Choice, IsBestThrough}
 use Rattle.pad_checkpoint.specs.declared.place.Place.{Place}
 use Rattle.pad_checkpoint.specs.Place.{place_of}
 use Rattle.pad_checkpoint.specs.Links.{link_of, names_of}
+use Rattle.pad_checkpoint.specs.Settled.{KeepsLinks}
 use Rattle.pad_branch.specs.declared.undo.Undo.{Undo}
 use Rattle.pad_branch.specs.Held.{marks}
 use Rattle.pad_branch.specs.Pathless.{KnowsPathless, AreFound, pathless_in}
@@ -70,6 +71,14 @@ pub record IsFoundOut (before now : View) (base : Base) (received : List Message
   pub ready : IsReady base received message choice.root joining.adding.stood.above now.branch.branch (held_of now) (graph.state_of now.graph) before.found linkings
   pub knows : KnowsPathless base (message ∷ received) choice.root (pathless_in (held_of now) names)
   pub are : AreFound base (message ∷ received) choice.root (pathless_in (held_of now) names) (found ++ before.found)
+
+-- the graph stands for the links that it stood for, maybe with another root
+abbrev pub KeepsNames : View → View → Type 0
+KeepsNames old new = KeepsLinks (graph.state_of old.graph) (graph.state_of new.graph)
+
+-- the graph stands for the links that it stood for, but for the last of them
+abbrev pub UndoesName : View → View → Type 0
+UndoesName old new = (base : Name) (link : Link) (links : List Link) (root : List Name) → Stands (graph.state_of old.graph) base (link ∷ links) root → Stands (graph.state_of new.graph) base links root
 
 -- ---- what the steps lead to, from the chain as it is once the graph has added the message
 

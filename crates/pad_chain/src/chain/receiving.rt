@@ -1,6 +1,6 @@
 //! A message that comes.
 
-ghost use Rattle.std.specs.Prelude.{◌≡◌, ◌≤◌, ◌+◌, List, ◌∷◌, ◌++◌, length, reverse, vec_len, vec_capacity, IfOk, IfErr, OnErr, Some, None, Err};
+ghost use Rattle.std.specs.Prelude.{◌≡◌, ◌≤◌, ◌+◌, List, ◌∷◌, ◌++◌, length, reverse, vec_len, vec_capacity, IfOk, IfErr, OnOk, OnErr, Some, None, Err};
 ghost use Rattle.pad_text.specs.declared.name.Name.{Name};
 ghost use Rattle.pad_message.specs.Content.{most_operations};
 ghost use Rattle.pad_message.specs.declared.message.Message.{Message};
@@ -21,8 +21,9 @@ ghost use Rattle.pad_chain.specs.declared.receive_refused.ReceiveRefused.TheVari
 ghost use Rattle.pad_chain.specs.State.{held_of};
 ghost use Rattle.pad_chain.specs.Tie.{StandsFor};
 ghost use Rattle.pad_chain.specs.Receive.{IsReceived};
+ghost use Rattle.pad_chain.specs.Knows.{Knows, IsFull};
 ghost use Rattle.pad_chain.specs.Inside.Tables.{IsPut};
-ghost use Rattle.pad_chain.specs.Inside.Receiving.{IsUntouched, Receives, Refuses, TakesOn, Stays, Switches};
+ghost use Rattle.pad_chain.specs.Inside.Receiving.{IsUntouched, KeepsNames, UndoesName, Receives, Refuses, TakesOn, Stays, Switches};
 
 use crate::chain::Chain;
 use crate::moved::{Moved, Moves};
@@ -65,8 +66,8 @@ fn add_found(found: &mut Vec<Name>, more: Vec<Name>)
 }
 
 impl<S: UnitStore> Chain<S> {
-    /// Receives a message, and tells how the best chain changed. `Full` comes only where its name is new and as many names are
-    /// known as there may be. A chain that refused a message stands for what it stood for.
+    /// Receives a message, and tells how the best chain changed. It is refused where its name is new and as many names are known
+    /// as there may be, and `Full` comes only there. A chain that refused a message stands for what it stood for.
     pub fn receive<L: Ledger>(
         &mut self,
         alloc: Global,
@@ -78,13 +79,18 @@ impl<S: UnitStore> Chain<S> {
         ensures stands { IfOk result (λ moved. (base : Base) (received : List Message) (choice : Choice) → NamesDiffer (message ∷ received) → StandsFor self.old base received choice → IsReceived self.old self.new base received message choice moved) }
         ensures refused { OnErr result ((base : Base) (received : List Message) (choice : Choice) → StandsFor self.old base received choice → StandsFor self.new base received choice) }
         ensures whole { self.new.whole ≡ self.old.whole }
+        ensures knows { OnOk result ((base : Base) (received : List Message) → Knows self.old base received → Knows self.new base (message ∷ received)) }
+        ensures knows_still { OnErr result ((base : Base) (received : List Message) → Knows self.old base received → Knows self.new base received) }
         ensures full { IfErr result (λ refused. refused ≡ Full → (graph.standing (state_of self.old.graph) (name_of message) ≡ Unknown) × (self.old.graph.known ≡ MOST_NAMES)) }
+        ensures limit { IfErr result (λ refused. refused ≡ Full → (base : Base) (received : List Message) → Knows self.old base received → IsFull base received message) }
+        ensures room { OnOk result ((base : Base) (received : List Message) → Knows self.old base received → ¬ (IsFull base received message)) }
     {
         let name = message.name(alloc)?;
         self.receive_named(alloc, name, message, steps)
     }
 
-    /// The same, where the message's name is at hand. `Full` comes wherever it can.
+    /// The same, where the message's name is at hand. `Full` comes exactly where its name is new and as many names
+    /// are known as there may be.
     pub fn receive_named<L: Ledger>(
         &mut self,
         alloc: Global,
@@ -97,6 +103,31 @@ impl<S: UnitStore> Chain<S> {
         ensures stands { IfOk result (λ moved. (base : Base) (received : List Message) (choice : Choice) → NamesDiffer (message ∷ received) → StandsFor self.old base received choice → IsReceived self.old self.new base received message choice moved) }
         ensures refused { OnErr result ((base : Base) (received : List Message) (choice : Choice) → StandsFor self.old base received choice → StandsFor self.new base received choice) }
         ensures whole { self.new.whole ≡ self.old.whole }
+        ensures knows { OnOk result ((base : Base) (received : List Message) → Knows self.old base received → Knows self.new base (message ∷ received)) }
+        ensures knows_still { OnErr result ((base : Base) (received : List Message) → Knows self.old base received → Knows self.new base received) }
+        ensures full { IfErr result (λ refused. refused ≡ Full → (graph.standing (state_of self.old.graph) name ≡ Unknown) × (self.old.graph.known ≡ MOST_NAMES)) }
+        ensures limit { IfErr result (λ refused. refused ≡ Full → (base : Base) (received : List Message) → Knows self.old base received → IsFull base received message) }
+        ensures room { graph.standing (state_of self.old.graph) name ≡ Unknown → self.old.graph.known ≡ MOST_NAMES → result ≡ Err Full }
+        ensures exact { (base : Base) (received : List Message) → Knows self.old base received → IsFull base received message → result ≡ Err Full }
+    {
+        self.take_in(alloc, name, message, steps)
+    }
+
+    /// Adds a message to the graph, and does what follows of it.
+    fn take_in<L: Ledger>(
+        &mut self,
+        alloc: Global,
+        name: Name,
+        message: Message,
+        steps: &mut Steps<L>,
+    ) -> Result<Moved, ReceiveRefused>
+        requires named { name ≡ name_of message }
+        requires interval { HasInterval message.kind }
+        ensures stands { IfOk result (λ moved. (base : Base) (received : List Message) (choice : Choice) → NamesDiffer (message ∷ received) → StandsFor self.old base received choice → IsReceived self.old self.new base received message choice moved) }
+        ensures refused { OnErr result ((base : Base) (received : List Message) (choice : Choice) → StandsFor self.old base received choice → StandsFor self.new base received choice) }
+        ensures whole { self.new.whole ≡ self.old.whole }
+        ensures knows { OnOk result ((base : Base) (received : List Message) → Knows self.old base received → Knows self.new base (message ∷ received)) }
+        ensures knows_still { OnErr result ((base : Base) (received : List Message) → Knows self.old base received → Knows self.new base received) }
         ensures full { IfErr result (λ refused. refused ≡ Full → (graph.standing (state_of self.old.graph) name ≡ Unknown) × (self.old.graph.known ≡ MOST_NAMES)) }
         ensures room { graph.standing (state_of self.old.graph) name ≡ Unknown → self.old.graph.known ≡ MOST_NAMES → result ≡ Err Full }
     {
@@ -126,6 +157,8 @@ impl<S: UnitStore> Chain<S> {
         requires added { last_added (state_of self.old.graph) ≡ Some name }
         ensures received { IfOk result (Receives self.old self.new message Waiting) }
         ensures refused { OnErr result (Refuses self.old self.new message Waiting) }
+        ensures links { OnOk result (KeepsNames self.old self.new) }
+        ensures undone { OnErr result (UndoesName self.old self.new) }
         ensures whole { self.new.whole ≡ self.old.whole }
     {
         stays_chosen();
@@ -139,6 +172,7 @@ impl<S: UnitStore> Chain<S> {
     /// Counts what overtook of messages that became linked below the root, and lets go those that waited.
     fn pass_below(&mut self, alloc: Global, below: &Linkings) -> Moved
         ensures received { (message : Message) → Receives self.old self.new message (Below below.now) result }
+        ensures links { KeepsNames self.old self.new }
         ensures whole { self.new.whole ≡ self.old.whole }
     {
         stays_chosen();
@@ -166,6 +200,8 @@ impl<S: UnitStore> Chain<S> {
         requires added { last_added (state_of self.old.graph) ≡ Some name }
         ensures received { IfOk result (Receives self.old self.new message (Linked linkings.now)) }
         ensures refused { OnErr result (Refuses self.old self.new message (Linked linkings.now)) }
+        ensures links { OnOk result (KeepsNames self.old self.new) }
+        ensures undone { OnErr result (UndoesName self.old self.new) }
         ensures whole { self.new.whole ≡ self.old.whole }
     {
         best_through_its_root();
@@ -209,6 +245,7 @@ impl<S: UnitStore> Chain<S> {
         steps: &mut Steps<L>,
     ) -> Result<Moved, AllocError>
         ensures received { IfOk result (TakesOn self.old self.new linkings.now) }
+        ensures links { OnOk result (KeepsNames self.old self.new) }
         ensures untouched { OnErr result (IsUntouched self.old self.new) }
         ensures whole { self.new.whole ≡ self.old.whole }
     {
@@ -238,6 +275,7 @@ impl<S: UnitStore> Chain<S> {
         found: Vec<Name>,
     ) -> Result<Moved, AllocError>
         ensures received { IfOk result (Stays self.old self.new pathless (reverse found.items)) }
+        ensures links { OnOk result (KeepsNames self.old self.new) }
         ensures untouched { OnErr result (IsUntouched self.old self.new) }
         ensures whole { self.new.whole ≡ self.old.whole }
     {
@@ -258,6 +296,7 @@ impl<S: UnitStore> Chain<S> {
     ) -> Result<Moved, AllocError>
         requires can { CanSwitch self.old.branch.branch won.keep won.undos.items (S.units won.text) }
         ensures received { IfOk result (Switches self.old self.new pathless (reverse found.items) won.keep won.undos.items (S.units won.text)) }
+        ensures links { OnOk result (KeepsNames self.old self.new) }
         ensures untouched { OnErr result (IsUntouched self.old self.new) }
         ensures whole { self.new.whole ≡ self.old.whole }
     {

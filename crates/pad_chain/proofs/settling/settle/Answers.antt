@@ -1,6 +1,6 @@
 use Rattle.std.proofs.Common.{◌≡◌, ◌++◌, List, take, sym, ap, ◌∙◌, subst}
-use Rattle.pad_graph.specs.State.{state_of}
-use Rattle.pad_checkpoint.specs.Settled.{IsRooted}
+use Rattle.pad_graph.specs.State.{State, state_of}
+use Rattle.pad_checkpoint.specs.Settled.{IsRooted, KeepsLinks}
 use Rattle.pad_branch.specs.declared.undo.Undo.{Undo}
 use Rattle.pad_chain.specs.Inside.Marks.{marks_from}
 use Rattle.pad_chain.specs.Inside.Receiving.{rising, IsRaised}
@@ -25,3 +25,13 @@ returns-clause-raised g c b R root path links r quiet =
     subst (λ w. IsRaised b links root (rising w path) c.settle.new.self.root (state_of c.settle.new.graph)) (sym c.if-whole.false)
     (raised_to c.roots_rise_to_cuts_above.ensures b links root path c.settle.new.self.root (state_of c.settle.new.graph) c.in_ok-settle.field-0
     (c.in_ok-settle.ensures.settled b R root path links (subst (λ ms. IsRooted b R root path links c.args.pruning.now.root ms (state_of c.args.graph.now)) (sym marks_are) r)))
+
+-- a graph that stays keeps its links
+kept : (state : State) → KeepsLinks state state
+kept state base links root h = (root, h)
+
+pub returns-then-whole-clause-links : goal.returns-then-whole-clause-links
+returns-then-whole-clause-links g c = kept (state_of c.args.graph.now)
+
+pub returns-then-no_checkpoint-clause-links : goal.returns-then-no_checkpoint-clause-links
+returns-then-no_checkpoint-clause-links g c = kept (state_of c.args.graph.now)

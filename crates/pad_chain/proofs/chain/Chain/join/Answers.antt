@@ -5,9 +5,10 @@ use Rattle.pad_message.specs.Message.{name_of}
 use Rattle.pad_graph.specs.State.{name_cmp}
 use Rattle.pad_chain.specs.State.{View, held_of}
 use Rattle.pad_chain.specs.Inside.Tables.{IsPut}
-use Rattle.pad_chain.specs.Inside.Receiving.{IsJoining, Receives, Refuses}
+use Rattle.pad_chain.specs.Inside.Receiving.{IsJoining, Receives, Refuses, KeepsNames, UndoesName}
 use Rattle.pad_chain.proofs.Arms.{put_held, marked_held}
 use Rattle.pad_chain.proofs.Adding.{adding_on, same_mark, refused_hold, refused_join}
+use Rattle.pad_chain.proofs.Knowing.{keeps_same, keeps_on, undoes_on}
 use Rattle.pad_chain.proofs.Received.{marked_received}
 use Rattle.pad_chain.proofs.chain.Chain.join.Goals as goal
 
@@ -71,3 +72,32 @@ returns-in-Err-clause-refused g c =
     let removed = subst (λ n. IsPut (held_of c.take_on.new.self) (held_of c.take_back.new.self) n None) c.requires.named c.take_back.ensures.removed in
     subst (λ (v : View). Refuses v c.take_back.new.self m (Linked ls)) c.self.view_is
     (λ before b R choice a. refused_join (record old { graph = before }) b R m choice old mid c.take_on.new.self c.take_back.new.self ls a (record { message = m; pathless = false }) put c.in_ok-hold_added.ensures.graph c.in-Err.ensures.untouched c.take_back.ensures.undone removed c.take_back.ensures.rest refl refl refl refl)
+
+pub returns-in_err-hold_added-clause-undone : goal.returns-in_err-hold_added-clause-undone
+returns-in_err-hold_added-clause-undone g c =
+    let i = c.self.inside in
+    let old : View = record { graph = i.graph; pruning = i.pruning; messages = i.messages.entries; branch = i.branch; found = reverse i.found.items; whole = i.whole } in
+    let new : View = record old { graph = c.hold_added.new.graph; messages = c.hold_added.new.messages.entries } in
+    on_err c.from_residual.result (subst (λ (v : View). UndoesName v new) c.self.view_is c.in_err-hold_added.ensures.undone)
+
+pub returns-then-has_mark-clause-links : goal.returns-then-has_mark-clause-links
+returns-then-has_mark-clause-links g c =
+    let i = c.self.inside in
+    let old : View = record { graph = i.graph; pruning = i.pruning; messages = i.messages.entries; branch = i.branch; found = reverse i.found.items; whole = i.whole } in
+    let new : View = record old { graph = c.hold_added.new.graph; messages = c.mark_all.new.messages.entries } in
+    subst (λ (v : View). KeepsNames v new) c.self.view_is (keeps_same old new c.in_ok-hold_added.ensures.graph)
+
+pub returns-in-Ok-clause-links : goal.returns-in-Ok-clause-links
+returns-in-Ok-clause-links g c =
+    let i = c.self.inside in
+    let old : View = record { graph = i.graph; pruning = i.pruning; messages = i.messages.entries; branch = i.branch; found = reverse i.found.items; whole = i.whole } in
+    let mid : View = record old { graph = c.hold_added.new.graph; messages = c.hold_added.new.messages.entries } in
+    subst (λ (v : View). KeepsNames v c.take_on.new.self) c.self.view_is (keeps_on old mid c.take_on.new.self c.in_ok-hold_added.ensures.graph c.in-Ok.ensures.links)
+
+pub returns-in-Err-clause-undone : goal.returns-in-Err-clause-undone
+returns-in-Err-clause-undone g c =
+    let i = c.self.inside in
+    let old : View = record { graph = i.graph; pruning = i.pruning; messages = i.messages.entries; branch = i.branch; found = reverse i.found.items; whole = i.whole } in
+    let mid : View = record old { graph = c.hold_added.new.graph; messages = c.hold_added.new.messages.entries } in
+    subst (λ (v : View). UndoesName v c.take_back.new.self) c.self.view_is
+    (undoes_on old mid c.take_on.new.self c.take_back.new.self c.in_ok-hold_added.ensures.graph c.in-Err.ensures.untouched c.take_back.ensures.undone)

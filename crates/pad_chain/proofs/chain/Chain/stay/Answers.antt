@@ -4,8 +4,9 @@ use Rattle.std.specs.BTreeMap.{get}
 use Rattle.pad_text.specs.declared.name.Name.{Name}
 use Rattle.pad_graph.specs.State.{name_cmp, state_of}
 use Rattle.pad_chain.specs.State.{View}
-use Rattle.pad_chain.specs.Inside.Receiving.{Stays}
+use Rattle.pad_chain.specs.Inside.Receiving.{Stays, KeepsNames}
 use Rattle.pad_chain.proofs.Noting.{noted_held}
+use Rattle.pad_chain.proofs.Knowing.{keeps_same}
 use Rattle.pad_chain.proofs.Received.{none_received}
 use Rattle.pad_chain.proofs.chain.Chain.stay.Goals as goal
 
@@ -23,3 +24,10 @@ returns-clause-received g c =
     (λ before b R m choice linkings out best.
     none_received before old b R m choice linkings out.joining out.ready c.args.pathless (reverse c.args.found.items ++ before.found) out.knows out.are new c.none.result refl (added ∙ ap (λ (xs : List Name). reverse c.args.found.items ++ xs) out.joining.found)
     c.repeat_changes_no_choice.ensures best c.note.ensures refl refl refl c.none.ensures.reverted c.none.ensures.applied)
+
+pub returns-clause-links : goal.returns-clause-links
+returns-clause-links g c =
+    let i = c.self.inside in
+    let old : View = record { graph = i.graph; pruning = i.pruning; messages = i.messages.entries; branch = i.branch; found = reverse i.found.items; whole = i.whole } in
+    let new : View = record old { messages = c.note.new.messages.entries; found = reverse c.add_found.new.found.items } in
+    subst (λ (v : View). KeepsNames v new) c.self.view_is (keeps_same old new refl)

@@ -13,7 +13,7 @@ use Rattle.pad_branch.specs.Branch.{State, IsTrunk, switched}
 use Rattle.pad_checkpoint.specs.Settled.{IsRooted}
 use Rattle.pad_checkpoint.specs.Links.{link_of}
 use Rattle.pad_chain.specs.Inside.Marks.{marks_from, NoneIsCheckpoint}
-use Rattle.pad_chain.specs.Inside.Receiving.{Switches}
+use Rattle.pad_chain.specs.Inside.Receiving.{Switches, KeepsNames}
 use Rattle.pad_chain.proofs.Arms.{fewer_held}
 use Rattle.pad_chain.proofs.Noting.{noted_held}
 use Rattle.pad_chain.proofs.Settled.{rooted}
@@ -50,3 +50,10 @@ returns-clause-received g c =
     path best won.keep come units is_won (get name_cmp c.rise.new.messages) raised c.in_ok-settle.ensures.overtaken
     (λ upper joined trunk at. c.rise.ensures.raised b (m ∷ R) choice.root upper joined (subst (IsTrunk b (m ∷ R) choice.root (upper ++ joined)) (sym switched_is) trunk) at)
     c.note.ensures c.roots_rise_to_cuts_above.ensures c.known_above.ensures c.found_above.ensures back on)
+
+pub returns-clause-links : goal.returns-clause-links
+returns-clause-links g c =
+    let i = c.self.inside in
+    let old : View = record { graph = i.graph; pruning = i.pruning; messages = i.messages.entries; branch = i.branch; found = reverse i.found.items; whole = i.whole } in
+    let new : View = record old { graph = c.settle.new.graph; pruning = c.settle.new.pruning; messages = c.note.new.messages.entries; branch = c.rise.new.branch; found = reverse c.add_found.new.found.items } in
+    subst (λ (v : View). KeepsNames v new) c.self.view_is c.in_ok-settle.ensures.links

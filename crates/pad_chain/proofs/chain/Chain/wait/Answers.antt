@@ -5,9 +5,10 @@ use Rattle.pad_message.specs.Message.{name_of}
 use Rattle.pad_graph.specs.State.{name_cmp}
 use Rattle.pad_chain.specs.State.{View, held_of}
 use Rattle.pad_chain.specs.Inside.Tables.{IsPut}
-use Rattle.pad_chain.specs.Inside.Receiving.{Receives, Refuses}
+use Rattle.pad_chain.specs.Inside.Receiving.{Receives, Refuses, KeepsNames, UndoesName}
 use Rattle.pad_chain.proofs.Arms.{waiting_received, put_held, same_held}
 use Rattle.pad_chain.proofs.Adding.{refused_hold}
+use Rattle.pad_chain.proofs.Knowing.{keeps_same}
 use Rattle.pad_chain.proofs.chain.Chain.wait.Goals as goal
 
 on_err : {A E : Type 0} {P : Type 0} (r : Result A E) → P → OnErr r P
@@ -38,3 +39,17 @@ returns-in_err-hold_added-clause-refused g c =
     let new : View = record old { graph = c.hold_added.new.graph; messages = c.hold_added.new.messages.entries } in
     on_err c.from_residual.result (subst (λ (v : View). Refuses v new m Waiting) c.self.view_is
     (λ before b R choice a. refused_hold (record old { graph = before }) b R m choice old new Waiting a refl c.in_err-hold_added.ensures.undone c.in_err-hold_added.ensures.same refl refl refl refl))
+
+pub returns-clause-links : goal.returns-clause-links
+returns-clause-links g c =
+    let i = c.self.inside in
+    let old : View = record { graph = i.graph; pruning = i.pruning; messages = i.messages.entries; branch = i.branch; found = reverse i.found.items; whole = i.whole } in
+    let new : View = record old { graph = c.hold_added.new.graph; messages = c.hold_added.new.messages.entries } in
+    subst (λ (v : View). KeepsNames v new) c.self.view_is (keeps_same old new c.in_ok-hold_added.ensures.graph)
+
+pub returns-in_err-hold_added-clause-undone : goal.returns-in_err-hold_added-clause-undone
+returns-in_err-hold_added-clause-undone g c =
+    let i = c.self.inside in
+    let old : View = record { graph = i.graph; pruning = i.pruning; messages = i.messages.entries; branch = i.branch; found = reverse i.found.items; whole = i.whole } in
+    let new : View = record old { graph = c.hold_added.new.graph; messages = c.hold_added.new.messages.entries } in
+    on_err c.from_residual.result (subst (λ (v : View). UndoesName v new) c.self.view_is c.in_err-hold_added.ensures.undone)
