@@ -7,7 +7,7 @@ use Rattle.pad_script.specs.declared.session_act.SessionAct.{SessionAct}
 use Rattle.pad_script.specs.declared.session_act.SessionAct.TheVariants as session
 use Rattle.pad_script.specs.declared.command.Command.{Command}
 use Rattle.std.proofs.lemmas.List.Sums.{sum_by-cons}
-use Rattle.pad_script.specs.Line.{before_lines, lines_of, newline}
+use Rattle.pad_lines.specs.Line.{before_lines, lines_of, newline}
 use Rattle.pad_script.specs.Act.{Says, SpellsAct}
 use Rattle.pad_script.specs.SessionAct.{SaysInSession, SpellsSessionAct}
 use Rattle.pad_script.specs.Script.{AreSaid, IsScript, commands_from}

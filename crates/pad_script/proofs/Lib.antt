@@ -4,6 +4,5 @@ pub mod Fronts
 pub mod Inserted
 pub mod Words
 pub mod OneMeaning
-pub mod LineLemmas
 pub mod Scripts
 pub mod Few

@@ -2,7 +2,7 @@
 use Rattle.std.proofs.Common.{◌≡◌, ℕ, ◌+◌, ◌<◌, ◌≤◌, List, [], ◌∷◌, ◌++◌, length, Option, None, Some, refl, sym, ap, ◌∙◌, arith, append_assoc}
 use Rattle.std.proofs.lemmas.List.{append-nil, length-append}
 use Rattle.pad_script.specs.declared.command.Command.{Command}
-use Rattle.pad_script.specs.Line.{lines_of}
+use Rattle.pad_lines.specs.Line.{lines_of}
 use Rattle.pad_script.specs.Script.{AreSaid, IsFirstOutside, IsScript, commands_from}
 
 -- The lines before the rest of a script are read: so many, with these commands.

@@ -1,7 +1,6 @@
 pub mod Parts
 pub mod Act
 pub mod SessionAct
-pub mod Line
 pub mod Script
 pub mod Requests
 pub mod Inside

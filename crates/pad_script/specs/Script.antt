@@ -1,7 +1,7 @@
 -- Scripts: the commands of their lines, and the first line outside a grammar. What a line says is a parameter here.
 use Rattle.std.specs.Prelude.{◌≡◌, ℕ, ◌+◌, List, [], ◌∷◌, ◌++◌, length, Option, None, Some}
 use Rattle.pad_script.specs.declared.command.Command.{Command}
-use Rattle.pad_script.specs.Line.{lines_of}
+use Rattle.pad_lines.specs.Line.{lines_of}
 
 -- each line says what stands in its place
 abbrev pub AreSaid : {A : Type 0} → (List ℕ → Option A → Type 0) → List (List ℕ) → List (Option A) → Type 0

@@ -8,11 +8,11 @@ ghost use Rattle.pad_script.specs.Script.{IsFirstOutside, IsScript, commands_fro
 use crate::act::Act;
 use crate::client_line::read_client_line;
 use crate::command::{Command, Commands};
-use crate::line::split_line;
 use crate::line_refused::LineRefused;
 use crate::script_refused::ScriptRefused;
 use crate::session_act::SessionAct;
 use crate::session_line::read_session_line;
+use pad_lines::split_line;
 use std::alloc::{AllocError, Global};
 
 /// The commands of a client script, line by line. A line ends at a newline; a last line without one counts where it is not

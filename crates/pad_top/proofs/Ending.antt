@@ -13,7 +13,7 @@ use Rattle.pad_top.specs.declared.status.Status.{Status}
 use Rattle.pad_top.specs.declared.status.Status.TheVariants as status
 use Rattle.pad_top.specs.Input.{most_bytes}
 use Rattle.pad_top.specs.Inside.Told.{IsToldAs}
-use Rattle.pad_top.specs.Line.{lines_of}
+use Rattle.pad_lines.specs.Line.{lines_of}
 use Rattle.pad_top.specs.Received.{IsReceived, HasFewNames}
 use Rattle.pad_top.specs.Inside.Refusal.{IsReplayRefusal, status_of}
 use Rattle.pad_top.specs.Replay.{IsReplayed}

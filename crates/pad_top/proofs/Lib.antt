@@ -1,5 +1,4 @@
 mod Ending
-mod LineLemmas
 mod Once
 mod Order
 mod Receiving

@@ -12,7 +12,7 @@ use Rattle.pad_model.specs.Report.{IsReport}
 use Rattle.pad_list.proofs.CallerLemmas.{contains_head, contains_more, contains_cases}
 use Rattle.pad_model.proofs.CallerLemmas.{repeat_changes_no_report}
 use Rattle.pad_top.specs.Input.{most_bytes}
-use Rattle.pad_top.specs.Line.{lines_of}
+use Rattle.pad_lines.specs.Line.{lines_of}
 use Rattle.pad_top.specs.Received.{LineSpells, ReadsAs, IsReceived, HasFewNames, IsTaken}
 use Rattle.pad_top.specs.Replay.{IsReplayed}
 use Rattle.pad_top.specs.Laws.{RepeatsChangeNothing}

@@ -5,7 +5,7 @@ use Rattle.std.specs.List.{AllZip, filter_map}
 use Rattle.pad_message.specs.declared.message.Message.{Message}
 use Rattle.pad_top.specs.declared.refused.ReplayRefused.{ReplayRefused}
 use Rattle.pad_top.specs.declared.refused.ReplayRefused.TheVariants as refused
-use Rattle.pad_top.specs.Line.{lines_of}
+use Rattle.pad_lines.specs.Line.{lines_of}
 use Rattle.pad_top.specs.Received.{LineSpells, ReadsAs, IsReceived, HasFewNames, Reaches}
 use Rattle.pad_top.specs.Inside.Progress.{Progress, Receives, progress_after, IsMessageRefusal, IsLineRefusal, IsLinesRefusal}
 

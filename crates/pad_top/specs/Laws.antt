@@ -4,7 +4,7 @@ use Rattle.pad_message.specs.declared.message.Message.{Message}
 use Rattle.pad_model.specs.Laws.{SameMembers}
 use Rattle.pad_model.specs.Path.{NamesDiffer}
 use Rattle.pad_top.specs.Input.{most_bytes}
-use Rattle.pad_top.specs.Line.{lines_of}
+use Rattle.pad_lines.specs.Line.{lines_of}
 use Rattle.pad_top.specs.Received.{LineSpells, IsReceived}
 use Rattle.pad_top.specs.Replay.{IsReplayed, IsPastLimit}
 

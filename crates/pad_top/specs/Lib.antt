@@ -1,7 +1,6 @@
 pub mod Input
 pub mod Inside
 pub mod Laws
-pub mod Line
 pub mod Output
 pub mod Received
 pub mod Replay

@@ -6,7 +6,7 @@ use Rattle.pad_model.specs.Path.{NamesDiffer}
 use Rattle.pad_model.specs.Best.{IsBest}
 use Rattle.pad_model.specs.Report.{IsReport}
 use Rattle.pad_top.specs.Input.{most_bytes}
-use Rattle.pad_top.specs.Line.{lines_of}
+use Rattle.pad_lines.specs.Line.{lines_of}
 use Rattle.pad_top.specs.Received.{IsTaken, MeetsOneTooMany}
 
 -- The output is the report of what the lines of the input read as, from the first base on, where no two different

@@ -2,7 +2,7 @@
 use Rattle.std.specs.Prelude.{ℕ, List, [], ◌∷◌, ◌++◌, codes}
 use Rattle.pad_top.specs.declared.status.Status.{Status}
 use Rattle.pad_top.specs.declared.status.Status.TheVariants as status
-use Rattle.pad_top.specs.Line.{newline}
+use Rattle.pad_lines.specs.Line.{newline}
 
 -- the line that tells why a run ended early; none where it did not, nor after a failed write or for want of memory
 abbrev pub status_line : Status → List ℕ

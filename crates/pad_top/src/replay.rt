@@ -1,17 +1,17 @@
 ghost use Rattle.std.specs.Prelude.{◌≡◌, ◌<◌, Err, IfOk, IfErr, IfSome, OnOk, string_bytes};
 ghost use Rattle.std.specs.Io.KnownBytes.{IsAtEnd};
 ghost use Rattle.pad_edge.specs.Count.{Rose};
-ghost use Rattle.pad_top.specs.Line.{lines_of};
+ghost use Rattle.pad_lines.specs.Line.{lines_of};
 ghost use Rattle.pad_top.specs.Received.{IsReceived};
 ghost use Rattle.pad_top.specs.Inside.Progress.{IsLinesRefusal};
 ghost use Rattle.pad_top.specs.Inside.Refusal.{IsReplayRefusal};
 ghost use Rattle.pad_top.specs.Replay.{IsReplayed};
 
 use crate::input::read_all;
-use crate::lines::split_line;
 use crate::received::Received;
 use crate::refused::ReplayRefused;
 use pad_edge::Source;
+use pad_lines::split_line;
 use std::alloc::Global;
 
 /// The report of what the lines of the whole input read as.

@@ -1,6 +1,6 @@
 -- The report of what was received is that of the input.
 use Rattle.std.proofs.Common.{length, arith, ap, subst, string_bytes}
-use Rattle.pad_top.specs.Line.{lines_of}
+use Rattle.pad_lines.specs.Line.{lines_of}
 use Rattle.pad_top.specs.Received.{IsReceived}
 use Rattle.pad_top.specs.Replay.{IsReplayed}
 use Rattle.pad_top.proofs.Ending.{told, replayed}

@@ -1,5 +1,5 @@
 ghost use Rattle.std.specs.Prelude.{◌≡◌, ◌==◌, ◌<◌, [], ◌∷◌, length, position, MatchOption, IfSome};
-ghost use Rattle.pad_script.specs.Line.{newline, lines_of};
+ghost use Rattle.pad_lines.specs.Line.{newline, lines_of};
 
 /// The first line of a text, without what ends it, and the text after it. None of an empty text.
 pub fn split_line(text: &[u8]) -> Option<(&[u8], &[u8])>

@@ -2,9 +2,9 @@
 use Rattle.std.proofs.Common.{◌≡◌, ◌+◌, ◌-◌, length, take, drop, arith, ap, sym, ◌∙◌, ◌∷◌, length-drop}
 use Rattle.std.proofs.lemmas.Bool.Decides.{nat_tests}
 use Rattle.std.proofs.lemmas.List.{take_all}
-use Rattle.pad_script.specs.Line.{lines_of}
-use Rattle.pad_script.proofs.LineLemmas.{lines_of-split, lines_of-whole}
-use Rattle.pad_script.proofs.line.split_line.Goals as goal
+use Rattle.pad_lines.specs.Line.{lines_of}
+use Rattle.pad_lines.proofs.LineLemmas.{lines_of-split, lines_of-whole}
+use Rattle.pad_lines.proofs.line.split_line.Goals as goal
 
 pub returns-in-Some-clause-lines : goal.returns-in-Some-clause-lines
 returns-in-Some-clause-lines c =

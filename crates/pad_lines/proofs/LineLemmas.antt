@@ -2,7 +2,7 @@
 use Rattle.std.proofs.Common.{◌≡◌, ℕ, suc, ◌+◌, ◌<◌, ◌≤◌, Bool, true, false, not, nat_lt, cond, List, [], ◌∷◌, length, take, drop, None, Some, Option, refl, sym, ap, subst, ◌∙◌, arith, ◌==◌, if◌then◌else◌}
 use Rattle.std.proofs.lemmas.Bool.Decides.{nat_tests}
 use Rattle.std.specs.List.{position_or_len, position}
-use Rattle.pad_top.specs.Line.{newline, before_lines, lines_of}
+use Rattle.pad_lines.specs.Line.{newline, before_lines, lines_of}
 
 -- whether a byte ends a line
 abbrev is_newline : ℕ → Bool
