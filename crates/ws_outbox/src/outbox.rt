@@ -111,6 +111,7 @@ impl Outbox {
         requires some { 0 < vec_len frame }
         requires fits { unsent self.old + vec_len frame ≤ ALL_UNSENT_BYTES }
         ensures bytes { to_send self.new ≡ (if is_ok result then to_send self.old ++ frame.items else to_send self.old) }
+        ensures count { unsent self.new ≡ (if is_ok result then unsent self.old + vec_len frame else unsent self.old) }
         ensures same { (self.new.turn ≡ self.old.turn) × (self.new.refuses ≡ self.old.refuses) }
     {
         let bytes = frame.len();
@@ -142,6 +143,7 @@ impl Outbox {
     pub fn sent(&mut self, count: usize)
         requires { count ≤ length self.old.front }
         ensures bytes { to_send self.new ≡ drop count (to_send self.old) }
+        ensures count { unsent self.new + count ≡ unsent self.old }
         ensures same { (self.new.turn ≡ self.old.turn) × (self.new.refuses ≡ self.old.refuses) }
     {
         self.gone += count;

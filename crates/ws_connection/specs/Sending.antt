@@ -1,0 +1,14 @@
+-- What a connection sends.
+use Rattle.std.specs.Prelude.{◌≡◌, ℕ, List, drop, None}
+use Rattle.websocket.specs.Connection.{whole_header}
+use Rattle.websocket.specs.Frame.{encode_frame}
+use Rattle.websocket.specs.declared.protocol.frame.coding.Data.TheVariants.{Text}
+use Rattle.websocket.specs.declared.protocol.frame.coding.OpCode.TheVariants.{Data}
+
+-- a text as one frame of a server, which is not masked (RFC 6455, section 5.2)
+abbrev pub text_frame : List ℕ → List ℕ
+text_frame text = encode_frame (whole_header (Data Text) None) text
+
+-- of these bytes those are left that did not go out: some from the front did
+abbrev pub IsLeft : (bytes left : List ℕ) → Type 0
+IsLeft bytes left = (count : ℕ) × (left ≡ drop count bytes)
