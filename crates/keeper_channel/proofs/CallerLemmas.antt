@@ -16,4 +16,6 @@ pub slot_weaker : {O G : Type 0} (is_one also_one : O → Type 0) (is_two also_t
 slot_weaker is_one also_one is_two also_two count_one count_two slot by_one by_two is = record {
   made = logs_weaker is_one also_one is_two also_two slot.logs by_one by_two is.made;
   counted = is.counted;
+  indexed = is.indexed;
+  few = is.few;
 }

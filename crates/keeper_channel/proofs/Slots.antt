@@ -4,6 +4,7 @@ use Rattle.std.specs.Prelude.{slice_get}
 use Rattle.std.proofs.lemmas.Bool.Decides.{leb_tells}
 use Rattle.log_format.specs.declared.form.Form.{Form}
 use Rattle.log_format.specs.declared.form.Form.TheVariants.{One, Two}
+use Rattle.log_format.specs.declared.form.TheConstants.{MOST_ENTRIES_ONE}
 use Rattle.log_format.specs.Form.{most_entries_of}
 use Rattle.disk_volume.specs.Disk.{Disk, reads}
 use Rattle.disk_volume.specs.Moments.{EachNow}
@@ -70,3 +71,14 @@ pub few_in : {O G : Type 0} (count_one : O → ℕ) (count_two : G → ℕ) (log
     → HasCount count_one count_two logs count → count ≤ most
 few_in count_one count_two (Unmoved one two) count most by_one by_two has = omega (arith, has, by_one one)
 few_in count_one count_two (Moved log marker) count most by_one by_two has = omega (arith, has, by_two log)
+
+-- nor more than a channel may have, in logs of these names and forms
+pub few_made : {O G : Type 0} (name_one : O → List ℕ) (form_one : O → Form) (live_one : O → Bool) (count_one : O → ℕ)
+    (name_two : G → List ℕ) (form_two : G → Form) (live_two : G → Bool) (count_two : G → ℕ) (one two : List ℕ) (logs : Logs O G) (count : ℕ)
+    → ((log : O) → count_one log ≤ most_entries_of (form_one log)) → ((log : G) → count_two log ≤ most_entries_of (form_two log))
+    → IsLogsOf (λ log. (name_one log ≡ one) × (form_one log ≡ One) × IsTrue (live_one log)) (λ log. (name_two log ≡ two) × (form_two log ≡ Two) × IsTrue (live_two log)) logs
+    → HasCount count_one count_two logs count → count ≤ MOST_ENTRIES_ONE
+few_made name_one form_one live_one count_one name_two form_two live_two count_two one two (Unmoved log other) count by_one by_two made has =
+    omega (arith, has, by_one log, ap most_entries_of made.0.1)
+few_made name_one form_one live_one count_one name_two form_two live_two count_two one two (Moved log marker) count by_one by_two made has =
+    omega (arith, has, by_two log, ap most_entries_of made.1)

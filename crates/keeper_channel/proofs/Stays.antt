@@ -79,15 +79,15 @@ stored_each opens_one opens_two two doubt held suspense added old new marked hel
     let P : List (List ℕ) → List (List ℕ) → Type 0 = λ h s. IsWithin (IsList opens_one opens_two image) h s ⊎ IsWithin (IsList opens_one opens_two image) h added in
     subst (λ (h : List (List ℕ)). P h suspense) (sym held_is) (subst (λ (s : List (List ℕ)). P (unmarked two) s) (sym suspense_is) (adding_moved opens_one opens_two image two doubt added marked (each image left)))
 
--- and now, where what was doubtful may have been added
-pub stored_doubt : (opens_one opens_two : (List ℕ → List ℕ) → List (List ℕ) → Type 0) (two doubt held suspense : List (List ℕ)) (disk : Disk)
+-- and where only what was doubtful may have been added
+pub stored_doubt : (opens_one opens_two : (List ℕ → List ℕ) → List (List ℕ) → Type 0) (two doubt held suspense : List (List ℕ)) (old new : Disk)
     → has_marker two ≡ true → held ≡ unmarked two → suspense ≡ doubt
-    → EachNow disk (λ image. Within (opens_two image) two doubt) → EachNow disk (λ image. IsWithin (IsList opens_one opens_two image) held suspense)
-stored_doubt opens_one opens_two two doubt held suspense disk marked held_is suspense_is now image left =
+    → EachSince old new (λ image. Within (opens_two image) two doubt) → EachSince old new (λ image. IsWithin (IsList opens_one opens_two image) held suspense)
+stored_doubt opens_one opens_two two doubt held suspense old new marked held_is suspense_is each image left =
     let P : List (List ℕ) → List (List ℕ) → Type 0 = λ h s. IsWithin (IsList opens_one opens_two image) h s in
-    subst (λ (h : List (List ℕ)). P h suspense) (sym held_is) (subst (λ (s : List (List ℕ)). P (unmarked two) s) (sym suspense_is) (within_moved opens_one opens_two image two doubt marked (now image left)))
+    subst (λ (h : List (List ℕ)). P h suspense) (sym held_is) (subst (λ (s : List (List ℕ)). P (unmarked two) s) (sym suspense_is) (within_moved opens_one opens_two image two doubt marked (each image left)))
 
--- or what is added
+-- or now what is added
 pub stored_added : (opens_one opens_two : (List ℕ → List ℕ) → List (List ℕ) → Type 0) (two held added : List (List ℕ)) (disk : Disk)
     → has_marker two ≡ true → held ≡ unmarked two
     → EachNow disk (λ image. Within (opens_two image) two added) → EachNow disk (λ image. IsWithin (IsList opens_one opens_two image) held added)

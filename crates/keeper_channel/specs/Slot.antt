@@ -1,8 +1,9 @@
 -- How a channel stands on a disk, with its index.
-use Rattle.std.specs.Prelude.{◌≡◌, ◌⊎◌, ◌↔◌, ℕ, List, ◌++◌, [], length, false, Option, None, Some, IsSome, Result, Err, MatchResult, IsErrOf}
+use Rattle.std.specs.Prelude.{◌≡◌, ◌⊎◌, ◌↔◌, ℕ, List, ◌++◌, [], length, false, Option, None, Some, IsSome, Result, Err, MatchResult, IfErr, IsErrOf, ◌≤◌}
 use Rattle.disk_volume.specs.Disk.{Disk, reads}
 use Rattle.disk_volume.specs.Moments.{EachNow, EachSince, JustSyncs}
 use Rattle.log_format.specs.Frames.{size_of}
+use Rattle.log_format.specs.declared.form.TheConstants.{MOST_ENTRIES_ONE}
 use Rattle.log_format.specs.declared.damage.Damage.{Damage}
 use Rattle.log_format.specs.declared.damage.Damage.TheVariants.{Entry}
 use Rattle.keeper_entry.specs.Index.{IsIndex}
@@ -13,10 +14,13 @@ use Rattle.keeper_channel.specs.declared.slot.Slot.{Slot}
 use Rattle.keeper_channel.specs.declared.refused.KeeperRefused.{KeeperRefused}
 use Rattle.keeper_channel.specs.declared.refused.KeeperRefused.TheVariants.{Full, Store, Damaged, NoMemory}
 
--- Each log of the slot is such a one, and its index counts the entries of its logs. This holds over every volume.
+-- Each log of the slot is such a one. Its index is that of some list, counts the entries of its logs, and has no more of them than a
+-- channel may have. This holds over every volume.
 pub record IsSlotOf {O G : Type 0} (is_one : O → Type 0) (is_two : G → Type 0) (count_one : O → ℕ) (count_two : G → ℕ) (slot : Slot O G) : Type 0 where
   pub made : IsLogsOf is_one is_two slot.logs
   pub counted : HasCount count_one count_two slot.logs slot.index.count
+  pub indexed : (payloads : List (List ℕ)) × IsIndex slot.index payloads
+  pub few : slot.index.count ≤ MOST_ENTRIES_ONE
 
 -- The slot has this list and this suspense on this disk: its logs do, its index is that of the list, and each payload holds an entry.
 pub record IsSlot {O G : Type 0} (holds_one : O → List (List ℕ) → Disk → Type 0) (holds_two : G → List (List ℕ) → Disk → Type 0) (doubt : (List ℕ → List ℕ) → List (List ℕ))
@@ -57,8 +61,9 @@ pub record IsReloaded {O G : Type 0} (opens_one opens_two : (List ℕ → List �
   pub slot_is : IsSlot holds_one holds_two doubt slot loaded doubtful new
 
 -- What a store into a loaded channel did. Since it began each crash leaves the list, with what was in suspense or with the entries
--- added or without. At `Ok` the list has the entries, none of them in suspense; after a refusal it is as it was, or, only where the
--- volume failed, the entries added are in suspense. `Full` comes exactly if there is no room; nothing was done then.
+-- added or without. At `Ok` the list has the entries, none of them in suspense. A refusal is of two kinds: no crash since the store
+-- began leaves the entries added, and the list is as it was, with what was in suspense; or, only where the volume failed, the entries
+-- added are in suspense. `Full` comes exactly if there is no room; nothing was done then.
 pub record IsStored {O G : Type 0} (opens_one opens_two : (List ℕ → List ℕ) → List (List ℕ) → Type 0) (doubt : (List ℕ → List ℕ) → List (List ℕ))
     (holds_one : O → List (List ℕ) → Disk → Type 0) (holds_two : G → List (List ℕ) → Disk → Type 0)
     (held suspense added : List (List ℕ)) (slot : Option (Slot O G)) (answer : Result ℕ KeeperRefused) (old new : Disk) : Type 0 where
@@ -69,6 +74,9 @@ pub record IsStored {O G : Type 0} (opens_one opens_two : (List ℕ → List ℕ
   pub full : IsErrOf answer Full ↔ (channel_room held (length added) (size_of added) ≡ false)
   pub nothing : IsErrOf answer Full → IsSome slot × (new ≡ old)
   pub undamaged : (damage : Damage) → IsErrOf answer (Damaged damage) → ⊥
+  pub spared : IfErr answer (λ refused.
+      (Keeps opens_one opens_two doubt holds_one holds_two slot held suspense new × EachSince old new (λ image. IsWithin (IsList opens_one opens_two image) held suspense))
+      ⊎ ((refused ≡ Store) × Keeps opens_one opens_two doubt holds_one holds_two slot held added new))
 
 -- a refusal names such a damage, or speaks of the volume or of memory
 abbrev pub NamesIt : (Damage → Type 0) → KeeperRefused → Type 0

@@ -57,10 +57,10 @@ pub fn add_group<G: Ledger, V: Volume>(
         IsAdding (G.opens_as (G.form_of log.old) (G.name log.old) image) payloads (G.doubt (G.form_of log.old) (G.name log.old) (reads (V.disk volume.old))) group.now) }
     ensures ok { V.tells → (payloads : List (List ℕ)) → G.holds log.old payloads (V.disk volume.old) → OnOk result (G.holds log.new (payloads ++ group.now) (V.disk volume.new)) }
     ensures sure { V.tells → (payloads : List (List ℕ)) → G.holds log.old payloads (V.disk volume.old) → OnOk result (G.doubt (G.form_of log.new) (G.name log.new) (reads (V.disk volume.new)) ≡ []) }
-    // After a refusal each image is the list with what was doubtful or without, or, where the volume failed, each is the list with
-    // the group or without.
+    // At a refusal each image since it began is the list with what was doubtful or without, or, where the volume failed, each image now
+    // is the list with the group or without.
     ensures left { V.tells → (payloads : List (List ℕ)) → G.holds log.old payloads (V.disk volume.old) → OnErr result (
-        EachNow (V.disk volume.new) (λ image. Within (G.opens_as (G.form_of log.old) (G.name log.old) image) payloads (G.doubt (G.form_of log.old) (G.name log.old) (reads (V.disk volume.old))))
+        EachSince (V.disk volume.old) (V.disk volume.new) (λ image. Within (G.opens_as (G.form_of log.old) (G.name log.old) image) payloads (G.doubt (G.form_of log.old) (G.name log.old) (reads (V.disk volume.old))))
         ⊎ (IsErrOf result AppendRefused.Store × EachNow (V.disk volume.new) (λ image. Within (G.opens_as (G.form_of log.old) (G.name log.old) image) payloads group.now))) }
     ensures index { IfOk result (λ index. index ≡ G.count log.old) }
     ensures counted { OnOk result (G.count log.new ≡ G.count log.old + length group.now) }

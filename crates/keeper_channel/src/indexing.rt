@@ -55,6 +55,7 @@ fn add_entry<O: Ledger, G: Ledger, V: Volume>(
     ensures small { OnOk result (index.new.bytes ≤ (place + 1) * LONGEST_PAYLOAD) }
     ensures added { V.tells → (doubt : (List ℕ → List ℕ) → List (List ℕ)) (held suspense payloads : List (List ℕ)) → IsLive O.holds G.holds doubt logs.now held suspense (V.disk volume.old)
         → IsIndex index.old payloads → OnOk result ((payload : List ℕ) × (slice_get held place ≡ Some payload) × IsIndex index.new (payloads ++ payload ∷ []) × IsEntry payload) }
+    ensures indexed { (payloads : List (List ℕ)) → IsIndex index.old payloads → OnOk result ((payload : List ℕ) × IsIndex index.new (payloads ++ payload ∷ [])) }
     ensures other { V.tells → (doubt : (List ℕ → List ℕ) → List (List ℕ)) (held suspense : List (List ℕ)) → IsLive O.holds G.holds doubt logs.now held suspense (V.disk volume.old)
         → (damage : Damage) → IsErrOf result (LoadRefused.Damaged damage) → (payload : List ℕ) × (slice_get held place ≡ Some payload) × (damage ≡ Entry place) × (IsEntry payload → ⊥) }
     ensures disk { V.tells → V.disk volume.new ≡ V.disk volume.old }
@@ -80,6 +81,7 @@ pub fn index_entries<O: Ledger, G: Ledger, V: Volume>(
     requires counted { (count : ℕ) × HasCount O.count G.count logs.now count }
     requires holds { V.tells → (doubt : (List ℕ → List ℕ) → List (List ℕ)) × (held : List (List ℕ)) × (suspense : List (List ℕ)) × IsLive O.holds G.holds doubt logs.now held suspense (V.disk volume.old) }
     ensures counted { IfOk result (λ index. HasCount O.count G.count logs.now index.count) }
+    ensures indexed { IfOk result (λ index. (payloads : List (List ℕ)) × IsIndex index payloads) }
     ensures index { V.tells → (doubt : (List ℕ → List ℕ) → List (List ℕ)) (held suspense : List (List ℕ)) → IsLive O.holds G.holds doubt logs.now held suspense (V.disk volume.old)
         → MatchResult result (λ index. IsIndex index held × AreEntries held) (NamesDamage (λ damage. (place : ℕ) × (damage ≡ Entry place) × IsFirstOther held place)) }
     ensures disk { V.tells → V.disk volume.new ≡ V.disk volume.old }

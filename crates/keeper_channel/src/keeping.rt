@@ -25,7 +25,9 @@ use std::alloc::Global;
 
 /// Stores 1 to 64 entries under one gate in a channel that is loaded, and answers the index of the first. A channel that was not moved
 /// yet is moved first. `Full` comes exactly if the list has no room for them; nothing is moved, primed or written then, and the
-/// channel stays loaded. `Store` comes exactly where the volume's count of faults rose, and then the channel has to be loaded again.
+/// channel stays loaded. (Over a volume that does not tell, `Full` may also come from the log, and then the channel has to be loaded
+/// again: its files may have changed since it was loaded.) `Store` comes exactly where the volume's count of faults rose, and then the
+/// channel has to be loaded again.
 pub fn store_entries<O: Ledger, G: Ledger, V: Volume>(
     alloc: Global,
     volume: &mut V,
@@ -42,6 +44,9 @@ pub fn store_entries<O: Ledger, G: Ledger, V: Volume>(
     requires slot { V.tells → (held : List (List ℕ)) × (suspense : List (List ℕ)) × IsSlot O.holds G.holds (G.doubt Form.Two two.now) slot held suspense (V.disk volume.old) }
     ensures stored { V.tells → (held suspense : List (List ℕ)) → IsSlot O.holds G.holds (G.doubt Form.Two two.now) slot held suspense (V.disk volume.old)
         → IsStored (O.opens_as Form.One one.now) (G.opens_as Form.Two two.now) (G.doubt Form.Two two.now) O.holds G.holds held suspense entries.now result.slot result.answer (V.disk volume.old) (V.disk volume.new) }
+    ensures full { (payloads : List (List ℕ)) → IsIndex slot.index payloads
+        → (IsErrOf result.answer KeeperRefused.Full × IsSome result.slot) ↔ (channel_room payloads (length entries.now) (size_of entries.now) ≡ false) }
+    ensures nothing { IsErrOf result.answer KeeperRefused.Full → IsSome result.slot → volume.new ≡ volume.old }
     ensures some { IsOk result.answer → IsSome result.slot }
     ensures none { IsErrOf result.answer KeeperRefused.Store → result.slot ≡ None }
     ensures made { IfSome result.slot (IsSlotOf (λ log. (O.name log ≡ one.now) × (O.form_of log ≡ Form.One) × IsTrue (O.live log)) (λ log. (G.name log ≡ two.now) × (G.form_of log ≡ Form.Two) × IsTrue (G.live log)) O.count G.count) }
@@ -101,6 +106,7 @@ fn store_group<O: Ledger, G: Ledger, V: Volume>(
     ensures stored { V.tells → (held suspense : List (List ℕ)) → IsSlot O.holds G.holds (G.doubt Form.Two two.now) slot held suspense (V.disk volume.old)
         → channel_room held (length entries.now) (size_of entries.now) ≡ true
         → IsStored (O.opens_as Form.One one.now) (G.opens_as Form.Two two.now) (G.doubt Form.Two two.now) O.holds G.holds held suspense entries.now result.slot result.answer (V.disk volume.old) (V.disk volume.new) }
+    ensures full { IsErrOf result.answer KeeperRefused.Full → result.slot ≡ None }
     ensures some { IsOk result.answer → IsSome result.slot }
     ensures none { IsErrOf result.answer KeeperRefused.Store → result.slot ≡ None }
     ensures made { IfSome result.slot (IsSlotOf (λ log. (O.name log ≡ one.now) × (O.form_of log ≡ Form.One) × IsTrue (O.live log)) (λ log. (G.name log ≡ two.now) × (G.form_of log ≡ Form.Two) × IsTrue (G.live log)) O.count G.count) }
@@ -133,11 +139,13 @@ fn store_indexed<O: Ledger, G: Ledger, V: Volume>(
 ) -> Stored<O, G>
     requires made { IsLogsOf (λ log. (O.name log ≡ one.now) × (O.form_of log ≡ Form.One) × IsTrue (O.live log)) (λ log. (G.name log ≡ two.now) × (G.form_of log ≡ Form.Two) × IsTrue (G.live log)) logs }
     requires counted { (count : ℕ) × HasCount O.count G.count logs count × (index.count ≡ count + length group.now) }
+    requires indexed { (payloads : List (List ℕ)) × IsIndex index payloads }
     requires apart { (file : List ℕ) → G.owns two.now file → O.owns one.now file → ⊥ }
     requires live { V.tells → (held : List (List ℕ)) × (suspense : List (List ℕ)) × IsLive O.holds G.holds (G.doubt Form.Two two.now) logs held suspense (V.disk volume.old) }
     ensures stored { V.tells → (held suspense : List (List ℕ)) → IsLive O.holds G.holds (G.doubt Form.Two two.now) logs held suspense (V.disk volume.old)
         → AreEntries held → AreEntries group.now → IsIndex index (held ++ group.now) → channel_room held (length group.now) (size_of group.now) ≡ true
         → IsStored (O.opens_as Form.One one.now) (G.opens_as Form.Two two.now) (G.doubt Form.Two two.now) O.holds G.holds held suspense group.now result.slot result.answer (V.disk volume.old) (V.disk volume.new) }
+    ensures full { IsErrOf result.answer KeeperRefused.Full → result.slot ≡ None }
     ensures some { IsOk result.answer → IsSome result.slot }
     ensures none { IsErrOf result.answer KeeperRefused.Store → result.slot ≡ None }
     ensures made { IfSome result.slot (IsSlotOf (λ log. (O.name log ≡ one.now) × (O.form_of log ≡ Form.One) × IsTrue (O.live log)) (λ log. (G.name log ≡ two.now) × (G.form_of log ≡ Form.Two) × IsTrue (G.live log)) O.count G.count) }

@@ -1,9 +1,11 @@
-ghost use Rattle.std.specs.Prelude.{◌≡◌, ◌≤◌, ◌⊎◌, List, ℕ, length, IfSome, IsSome, IsOk, None, IsErrOf, IsTrue};
+ghost use Rattle.std.specs.Prelude.{◌≡◌, ◌↔◌, ◌≤◌, ◌⊎◌, false, List, ℕ, length, IfSome, IsSome, IsOk, None, IsErrOf, IsTrue};
 ghost use Rattle.pad_edge.specs.Count.{Rose};
 ghost use Rattle.disk_volume.specs.Moments.{EachNow, Grew};
 ghost use Rattle.log_format.specs.declared.frames.TheConstants.{MOST_FRAMES};
-ghost use Rattle.keeper_channel.specs.Chan.{IsList, IsWithin};
-ghost use Rattle.keeper_channel.specs.Disks.{Either};
+ghost use Rattle.keeper_channel.specs.Chan.{IsList, IsWithin, channel_room};
+ghost use Rattle.keeper_channel.specs.Disks.{Either, SyncsThenActs};
+ghost use Rattle.log_format.specs.Frames.{size_of};
+ghost use Rattle.keeper_entry.specs.Index.{IsIndex};
 ghost use Rattle.keeper_channel.specs.Entries.{AreEntries};
 ghost use Rattle.keeper_channel.specs.Slot.{IsSlotOf, IsKept, Keeps};
 ghost use Rattle.keeper_channel.specs.Inside.Refusals.{refused_by};
@@ -17,10 +19,11 @@ use gated_log::{Ledger, LoadRefused};
 use log_format::{Form, Payloads};
 use std::alloc::Global;
 
-/// Stores 1 to 64 entries under one gate in a channel, and answers the index of the first. A channel that is not loaded, or not any
-/// more, is loaded first. The refusals, in this order: `Store` where loading failed; `Damaged` exactly by the files; `Full` exactly
-/// where the list has no room, and nothing is moved, primed or written then; `Store` where moving, priming or appending failed. Each
-/// `Store` comes exactly where the volume's count of faults rose, and then the channel has to be loaded again.
+/// Stores 1 to 64 entries under one gate in a channel that was loaded once, and answers the index of the first. Where it has to be
+/// loaded again, and so has no slot, it is loaded first. (A channel that was never loaded has no list that it keeps: it is for
+/// `load_slot`, and `store_entries` then.) The refusals, in this order: `Store` where loading failed; `Damaged` exactly by the files;
+/// `Full` exactly where the list has no room, and nothing is moved, primed or written then; `Store` where moving, priming or appending
+/// failed. Each `Store` comes exactly where the volume's count of faults rose, and then the channel has to be loaded again.
 pub fn store_slot<O: Ledger, G: Ledger, V: Volume>(
     alloc: Global,
     volume: &mut V,
@@ -41,7 +44,12 @@ pub fn store_slot<O: Ledger, G: Ledger, V: Volume>(
     ensures some { IsOk result.answer → IsSome result.slot }
     ensures none { IsErrOf result.answer KeeperRefused.Store → result.slot ≡ None }
     ensures made { IfSome result.slot (IsSlotOf (λ log. (O.name log ≡ one.now) × (O.form_of log ≡ Form.One) × IsTrue (O.live log)) (λ log. (G.name log ≡ two.now) × (G.form_of log ≡ Form.Two) × IsTrue (G.live log)) O.count G.count) }
+    ensures full { IfSome slot (λ slot. (payloads : List (List ℕ)) → IsIndex slot.index payloads
+        → (IsErrOf result.answer KeeperRefused.Full × IsSome result.slot) ↔ (channel_room payloads (length entries.now) (size_of entries.now) ≡ false)) }
     ensures files { V.tells → Grew (Either (O.owns one.now) (G.owns two.now)) (V.disk volume.old) (V.disk volume.new) }
+    // The file of form One is only synced.
+    ensures acts { V.tells → SyncsThenActs (O.owns one.now) (G.owns two.now) (V.disk volume.old) (V.disk volume.new) }
+    ensures acts_on_two { V.tells → IsSome slot → Grew (G.owns two.now) (V.disk volume.old) (V.disk volume.new) }
     ensures follows { V.follows volume.old volume.new }
     ensures store { IsErrOf result.answer KeeperRefused.Store → Rose (V.faults volume.old) (V.faults volume.new) }
     ensures kept { IsErrOf result.answer KeeperRefused.Store ⊎ (V.faults volume.new ≡ V.faults volume.old) }
@@ -73,6 +81,7 @@ fn store_unloaded<O: Ledger, G: Ledger, V: Volume>(
     ensures none { IsErrOf result.answer KeeperRefused.Store → result.slot ≡ None }
     ensures made { IfSome result.slot (IsSlotOf (λ log. (O.name log ≡ one.now) × (O.form_of log ≡ Form.One) × IsTrue (O.live log)) (λ log. (G.name log ≡ two.now) × (G.form_of log ≡ Form.Two) × IsTrue (G.live log)) O.count G.count) }
     ensures files { V.tells → Grew (Either (O.owns one.now) (G.owns two.now)) (V.disk volume.old) (V.disk volume.new) }
+    ensures acts { V.tells → SyncsThenActs (O.owns one.now) (G.owns two.now) (V.disk volume.old) (V.disk volume.new) }
     ensures follows { V.follows volume.old volume.new }
     ensures store { IsErrOf result.answer KeeperRefused.Store → Rose (V.faults volume.old) (V.faults volume.new) }
     ensures kept { IsErrOf result.answer KeeperRefused.Store ⊎ (V.faults volume.new ≡ V.faults volume.old) }

@@ -28,15 +28,15 @@ pub record IsMoving {O G : Type 0} (opens_one opens_two : (List ℕ → List ℕ
   pub files : Grew owns start disk
 
 -- What a store into loaded logs did. Since it began each crash leaves the list, with what was in suspense or with what is added, or
--- without. At `Ok` the list has what is added. After a refusal each crash leaves the list, with what was in suspense or without, or,
--- where the volume failed, with what is added or without. `Full` comes only where the list has no room, and `Damaged` only where
--- some payload of the list holds no entry.
+-- without. At `Ok` the list has what is added. At a refusal each crash since it began leaves the list, with what was in suspense or
+-- without, or, where the volume failed, each crash now leaves it with what is added or without. `Full` comes only where the list has no
+-- room, and `Damaged` only where some payload of the list holds no entry.
 pub record IsAdded {O G : Type 0} (opens_one opens_two : (List ℕ → List ℕ) → List (List ℕ) → Type 0) (doubt : (List ℕ → List ℕ) → List (List ℕ))
     (holds_one : O → List (List ℕ) → Disk → Type 0) (holds_two : G → List (List ℕ) → Disk → Type 0)
     (held suspense group : List (List ℕ)) (answer : Result (Added O G) KeeperRefused) (old new : Disk) : Type 0 where
   pub each : EachSince old new (λ image. IsWithin (IsList opens_one opens_two image) held suspense ⊎ IsWithin (IsList opens_one opens_two image) held group)
   pub left : MatchResult answer (λ added. IsLive holds_one holds_two doubt added.logs (held ++ group) [] new × (added.index ≡ length held))
-      (λ refused. EachNow new (λ image. IsWithin (IsList opens_one opens_two image) held suspense)
+      (λ refused. EachSince old new (λ image. IsWithin (IsList opens_one opens_two image) held suspense)
       ⊎ ((refused ≡ Store) × EachNow new (λ image. IsWithin (IsList opens_one opens_two image) held group)))
   pub full : IsErrOf answer Full → channel_room held (length group) (size_of group) ≡ false
   pub sound : (damage : Damage) → IsErrOf answer (Damaged damage) → AreEntries held → ⊥

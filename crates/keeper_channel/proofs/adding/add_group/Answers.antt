@@ -1,7 +1,7 @@
 use Rattle.std.proofs.Common.{◌⊎◌, inl, inr, List, ℕ, Result, Ok, Err, IsErrOf, OnErr, refl, sym, ap, subst}
 use Rattle.std.proofs.lemmas.Result.{err_from_is_err_and}
 use Rattle.disk_volume.specs.Disk.{Disk, reads}
-use Rattle.disk_volume.specs.Moments.{moment, EachNow, Grew}
+use Rattle.disk_volume.specs.Moments.{moment, EachSince, Grew}
 use Rattle.disk_volume.specs.Lemmas.Since.{each_then, grew_then, since_now}
 use Rattle.log_format.specs.declared.form.Form.{Form}
 use Rattle.keeper_channel.specs.Inside.Adding.{IsAdding}
@@ -47,13 +47,13 @@ returns-clause-left g c = λ told payloads holds.
     let new = g.V.Volume.disk c.append_group.new.volume in
     let doubt = g.G.Ledger.doubt form name (reads old) in
     let Q : (List ℕ → List ℕ) → Form → List ℕ → Type 0 = λ image f n. Within (g.G.Ledger.opens_as f n image) payloads c.args.group.now in
-    let P : Disk → Type 0 = λ disk. EachNow disk (λ image. Within (g.G.Ledger.opens_as form name image) payloads doubt) in
+    let P : Disk → Type 0 = λ disk. EachSince old disk (λ image. Within (g.G.Ledger.opens_as form name image) payloads doubt) in
     left_by c.append_group.result
-    (λ full. subst P (sym (ap g.V.Volume.disk (c.append_group.ensures.unchanged full).1)) (λ image now. inl (c.in_ok-prime.ensures.on_disk told payloads holds image now)))
+    (λ full. subst P (sym (ap g.V.Volume.disk (c.append_group.ensures.unchanged full).1)) (c.in_ok-prime.ensures.any_moment told payloads holds))
     (λ image now. subst (λ (n : List ℕ). Q image form n) c.in_ok-prime.ensures.name
     (subst (λ (f : Form). Q image f (g.G.Ledger.name c.prime.new.self)) c.in_ok-prime.ensures.form
     (c.append_group.ensures.any_moment told payloads (c.in_ok-prime.ensures.ok told payloads holds) image (since_now (moment mid) new image now))))
 
 pub returns-in_err-prime-clause-left : goal.returns-in_err-prime-clause-left
 returns-in_err-prime-clause-left g c = let p = err_from_is_err_and c.from_residual.result c.from_residual.ensures.1 in rw (p.1, p.2) (λ told payloads holds.
-    inl (λ image now. c.in_err-prime.ensures.any_moment told payloads holds image (since_now (moment (g.V.Volume.disk c.args.volume.now)) (g.V.Volume.disk c.prime.new.volume) image now)))
+    inl (c.in_err-prime.ensures.any_moment told payloads holds))

@@ -35,6 +35,7 @@ pub loop-place-init : goal.loop-place-init
 loop-place-init g c = record {
   count = c.new-index.ensures.count;
   small = omega (arith, c.new-index.ensures.bytes);
+  indexed = ([], c.new-index.ensures.index);
   so_far = λ told doubt held suspense live. (c.new-index.ensures.index, All-nil IsEntry);
   disk = λ told. refl;
   follows = g.met.V.Volume.follows_itself c.args.volume.now;
@@ -45,6 +46,7 @@ pub loop-place-preserved : goal.loop-place-preserved
 loop-place-preserved g c = record {
   count = c.in_ok-add_entry.ensures.count;
   small = c.in_ok-add_entry.ensures.small;
+  indexed = let before = c.loop-place.invariant.indexed in let more = c.in_ok-add_entry.ensures.indexed before.0 before.1 in (before.0 ++ more.0 ∷ [], more.1);
   so_far = λ told doubt held suspense live.
       let before = c.loop-place.invariant.so_far told doubt held suspense live in
       let here = subst (λ (d : Disk). IsLive g.O.Ledger.holds g.G.Ledger.holds doubt c.args.logs.now held suspense d) (sym (c.loop-place.invariant.disk told)) live in

@@ -9,6 +9,7 @@ abbrev pub invariant-loop-place : goal.invariant-loop-place
 invariant-loop-place g l = let V = g.V.Volume in record {
   count : l.index.count ≡ l.place;
   small : l.index.bytes ≤ l.place * LONGEST_PAYLOAD;
+  indexed : (payloads : List (List ℕ)) × IsIndex l.index payloads;
   so_far : V.tells → (doubt : (List ℕ → List ℕ) → List (List ℕ)) (held suspense : List (List ℕ)) → IsLive g.O.Ledger.holds g.G.Ledger.holds doubt l.logs held suspense (V.disk l.fn.volume)
       → IsIndex l.index (take l.place held) × AreEntries (take l.place held);
   disk : V.tells → V.disk l.volume ≡ V.disk l.fn.volume;

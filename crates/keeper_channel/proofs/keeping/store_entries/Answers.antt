@@ -1,4 +1,4 @@
-use Rattle.std.proofs.Common.{◌≡◌, inl, IsTrue, refl}
+use Rattle.std.proofs.Common.{◌≡◌, ◌∙◌, inl, true, false, Option, None, Some, IsSome, IsTrue, refl, sym}
 use Rattle.disk_volume.specs.Lemmas.Since.{now_alone}
 use Rattle.disk_volume.specs.Moments.{still}
 use Rattle.log_format.specs.declared.form.Form.TheVariants.{One, Two}
@@ -25,6 +25,7 @@ returns-in-Err-clause-stored g c = λ told held suspense is.
       );
       nothing = λ is_full. (refl, refl);
       undamaged = λ damage found. c.in-Err.ensures.sound damage (err_of c.in-Err.refused (Damaged damage) found);
+      spared = inl (is, (λ image left. inl (now image (now_alone disk image left))));
     }
 
 pub returns-in-Ok-clause-stored : goal.returns-in-Ok-clause-stored
@@ -32,3 +33,23 @@ returns-in-Ok-clause-stored g c = λ told held suspense is. c.store_group.ensure
 
 pub returns-in-Err-clause-files : goal.returns-in-Err-clause-files
 returns-in-Err-clause-files g c = λ told. still
+
+pub returns-in-Err-clause-full : goal.returns-in-Err-clause-full
+returns-in-Err-clause-full g c = λ payloads is. (
+  (λ both. (c.in-Err.ensures.full payloads is).0 (err_of c.in-Err.refused Full both.0)),
+  (λ none. (err_of c.in-Err.refused Full ((c.in-Err.ensures.full payloads is).1 none), refl)),
+)
+
+-- a refusal that left no channel
+gone : {T : Type 0} (slot : Option T) → slot ≡ None → IsSome slot → ⊥
+gone None none some = cc
+gone (Some channel) none some = cc
+
+pub returns-in-Ok-clause-full : goal.returns-in-Ok-clause-full
+returns-in-Ok-clause-full g c = λ payloads is. (
+  (λ both. absurd (gone c.store_group.result.slot (c.store_group.ensures.full both.0) both.1)),
+  (λ none. let e : true ≡ false = sym (c.in-Ok.ensures.room payloads is) ∙ none in absurd (cc)),
+)
+
+pub returns-in-Ok-clause-nothing : goal.returns-in-Ok-clause-nothing
+returns-in-Ok-clause-nothing g c = λ full some. absurd (gone c.store_group.result.slot (c.store_group.ensures.full full) some)

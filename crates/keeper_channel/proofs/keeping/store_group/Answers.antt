@@ -25,6 +25,7 @@ returns-in-Err-clause-stored g c = λ told held suspense is room.
       full = ((λ is_full. absurd (cc)), (λ none. let e : true ≡ false = sym room ∙ none in absurd (cc)));
       nothing = λ is_full. absurd (cc);
       undamaged = λ damage found. absurd (cc);
+      spared = inl ((λ image left. inl (now image left)), (λ image left. inl (now image (now_alone disk image left))));
     }
 
 pub returns-in-Ok-clause-stored : goal.returns-in-Ok-clause-stored
@@ -41,3 +42,6 @@ store_indexed-requires-clause-counted g c =
 
 pub returns-in-Err-clause-files : goal.returns-in-Err-clause-files
 returns-in-Err-clause-files g c = λ told. still
+
+pub store_indexed-requires-clause-indexed : goal.store_indexed-requires-clause-indexed
+store_indexed-requires-clause-indexed g c = let before = c.requires.made.indexed in (before.0 ++ c.args.entries.now, c.in-Ok.ensures.added before.0 before.1)

@@ -11,6 +11,7 @@ use Rattle.keeper_channel.specs.Logs.{NamesDamage, IsLive}
 use Rattle.keeper_channel.specs.Slot.{HasDamage}
 use Rattle.keeper_channel.proofs.Chans.{list_once, found_list, entry_at}
 use Rattle.keeper_channel.proofs.CallerLemmas.{logs_weaker}
+use Rattle.keeper_channel.proofs.Slots.{few_made}
 use Rattle.keeper_channel.proofs.opening.load_slot.Goals as goal
 
 -- a refusal that names such a damage names such another
@@ -82,4 +83,10 @@ pub index_entries-requires-clause-counted : goal.index_entries-requires-clause-c
 index_entries-requires-clause-counted g c = c.in_ok-logs.ensures.counted
 
 pub returns-clause-made : goal.returns-clause-made
-returns-clause-made g c = record { made = c.in_ok-logs.ensures.made; counted = c.in_ok-index.ensures.counted }
+returns-clause-made g c = let O = g.O.Ledger in let G = g.G.Ledger in record {
+  made = c.in_ok-logs.ensures.made;
+  counted = c.in_ok-index.ensures.counted;
+  indexed = c.in_ok-index.ensures.indexed;
+  few = few_made O.name O.form_of O.live O.count G.name G.form_of G.live G.count c.args.one.now c.args.two.now c.in_ok-logs.logs c.in_ok-index.index.count
+      g.met.O.Ledger.count_few g.met.G.Ledger.count_few c.in_ok-logs.ensures.made c.in_ok-index.ensures.counted;
+}

@@ -1,5 +1,6 @@
 use Rattle.disk_volume.specs.Lemmas.Since.{grew_within}
-use Rattle.std.proofs.Common.{inr}
+use Rattle.disk_volume.specs.Moments.{no_sync}
+use Rattle.std.proofs.Common.{inr, IsSome}
 use Rattle.keeper_channel.proofs.stores.store_slot.Goals as goal
 
 pub returns-in-Some-clause-stored : goal.returns-in-Some-clause-stored
@@ -10,3 +11,12 @@ returns-in-None-clause-stored g c = λ told held suspense tie. rw c.in-None.is (
 
 pub returns-in-Some-clause-files : goal.returns-in-Some-clause-files
 returns-in-Some-clause-files g c = λ told. grew_within (g.V.Volume.disk c.store_entries.new.volume) (λ file is. inr is) (c.store_entries.ensures.files told)
+
+pub returns-in-Some-clause-acts : goal.returns-in-Some-clause-acts
+returns-in-Some-clause-acts g c = λ told. record { mid = g.V.Volume.disk c.args.volume.now; syncs = no_sync; acts = c.store_entries.ensures.files told }
+
+pub returns-in-Some-clause-full : goal.returns-in-Some-clause-full
+returns-in-Some-clause-full g c = rw c.in-Some.is c.store_entries.ensures.full
+
+pub returns-in-None-clause-full : goal.returns-in-None-clause-full
+returns-in-None-clause-full g c = rw c.in-None.is tt

@@ -1,5 +1,6 @@
 use Rattle.std.proofs.Common.{◌≡◌, ◌∙◌, ◌⊎◌, inl, inr, List, ℕ, refl, sym, ap}
 use Rattle.disk_volume.specs.Lemmas.Since.{each_then, grew_then, grew_within}
+use Rattle.disk_volume.specs.Moments.{still}
 use Rattle.log_format.specs.declared.damage.Damage.{Damage}
 use Rattle.log_format.specs.declared.form.Form.TheVariants.{One, Two}
 use Rattle.gated_log.specs.declared.refused.LoadRefused.{LoadRefused}
@@ -80,3 +81,9 @@ pub returns-in-Ok-clause-files : goal.returns-in-Ok-clause-files
 returns-in-Ok-clause-files g c = λ told.
     let new = g.V.Volume.disk c.store_entries.new.volume in
     grew_then new (c.in-Ok.ensures.files told) (grew_within new (λ file is. inr is) (c.store_entries.ensures.files told))
+
+pub returns-in-Ok-clause-acts : goal.returns-in-Ok-clause-acts
+returns-in-Ok-clause-acts g c = λ told. record { mid = g.V.Volume.disk c.reload.new.volume; syncs = c.in-Ok.ensures.syncs told; acts = c.store_entries.ensures.files told }
+
+pub returns-in-Err-clause-acts : goal.returns-in-Err-clause-acts
+returns-in-Err-clause-acts g c = λ told. record { mid = g.V.Volume.disk c.reload.new.volume; syncs = c.reload.ensures.syncs told; acts = still }

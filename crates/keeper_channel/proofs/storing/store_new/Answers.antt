@@ -31,9 +31,9 @@ returns-in-Err-Full-clause-added g c = λ told held suspense is.
     let named = c.reserve.ensures.name in
     let each = stored_each opens_one opens_two is.new doubt held suspense c.args.group.now old new marked is.held_is is.suspense_is
     (subst (λ (n : List ℕ). P Two n) named (subst (λ (f : Form). P f (G.name mid)) formed (c.add_group.ensures.any_moment told is.new here))) in
-    let Q : Form → List ℕ → Type 0 = λ f n. EachNow new (λ image. Within (G.opens_as f n image) is.new (G.doubt f n (reads old))) in
-    let by_doubt : Q (G.form_of mid) (G.name mid) → EachNow new (λ image. IsWithin (IsList opens_one opens_two image) held suspense) = λ now.
-    stored_doubt opens_one opens_two is.new doubt held suspense new marked is.held_is is.suspense_is (subst (λ (n : List ℕ). Q Two n) named (subst (λ (f : Form). Q f (G.name mid)) formed now)) in
+    let Q : Form → List ℕ → Type 0 = λ f n. EachSince old new (λ image. Within (G.opens_as f n image) is.new (G.doubt f n (reads old))) in
+    let by_doubt : Q (G.form_of mid) (G.name mid) → EachSince old new (λ image. IsWithin (IsList opens_one opens_two image) held suspense) = λ since.
+    stored_doubt opens_one opens_two is.new doubt held suspense old new marked is.held_is is.suspense_is (subst (λ (n : List ℕ). Q Two n) named (subst (λ (f : Form). Q f (G.name mid)) formed since)) in
     let many = length c.args.group.now in
     let bytes = size_of c.args.group.now in
     let none : has_room Two is.new many bytes ≡ false =
@@ -41,7 +41,7 @@ returns-in-Err-Full-clause-added g c = λ told held suspense is.
     ∙ ap (λ (room : ℕ → ℕ → Bool). room many bytes) (sym c.reserve.ensures.room) ∙ c.in-Err-Full.ensures.full (rw c.in-Err-Full.field-0-is refl) in
     record {
       each = each;
-      left = elim (c.in-Err-Full.ensures.left told is.new here) [ inl now ↦ inl (by_doubt now) | inr store ↦ let full = c.in-Err-Full.field-0-is in let other = same_refusal c.in-Err-Full.field-0 Store store.0 in absurd (cc (full, other)) ];
+      left = elim (c.in-Err-Full.ensures.left told is.new here) [ inl since ↦ inl (by_doubt since) | inr store ↦ let full = c.in-Err-Full.field-0-is in let other = same_refusal c.in-Err-Full.field-0 Store store.0 in absurd (cc (full, other)) ];
       full = λ is_full. subst (λ (l : List (List ℕ)). channel_room l many bytes ≡ false) (sym is.held_is) (sym (room_marked is.new many bytes marked) ∙ none);
       sound = λ damage is_damaged all. absurd (cc);
     }
@@ -61,14 +61,14 @@ returns-clause-added g c = λ told held suspense is.
     let named = c.reserve.ensures.name in
     let each = stored_each opens_one opens_two is.new doubt held suspense c.args.group.now old new marked is.held_is is.suspense_is
     (subst (λ (n : List ℕ). P Two n) named (subst (λ (f : Form). P f (G.name mid)) formed (c.add_group.ensures.any_moment told is.new here))) in
-    let Q : Form → List ℕ → Type 0 = λ f n. EachNow new (λ image. Within (G.opens_as f n image) is.new (G.doubt f n (reads old))) in
-    let by_doubt : Q (G.form_of mid) (G.name mid) → EachNow new (λ image. IsWithin (IsList opens_one opens_two image) held suspense) = λ now.
-    stored_doubt opens_one opens_two is.new doubt held suspense new marked is.held_is is.suspense_is (subst (λ (n : List ℕ). Q Two n) named (subst (λ (f : Form). Q f (G.name mid)) formed now)) in
+    let Q : Form → List ℕ → Type 0 = λ f n. EachSince old new (λ image. Within (G.opens_as f n image) is.new (G.doubt f n (reads old))) in
+    let by_doubt : Q (G.form_of mid) (G.name mid) → EachSince old new (λ image. IsWithin (IsList opens_one opens_two image) held suspense) = λ since.
+    stored_doubt opens_one opens_two is.new doubt held suspense old new marked is.held_is is.suspense_is (subst (λ (n : List ℕ). Q Two n) named (subst (λ (f : Form). Q f (G.name mid)) formed since)) in
     let R : Form → List ℕ → Type 0 = λ f n. EachNow new (λ image. Within (G.opens_as f n image) is.new c.args.group.now) in
     record {
       each = each;
       left = elim (c.in-Err-Store.ensures.left told is.new here) [
-        | inl now ↦ inl (by_doubt now)
+        | inl since ↦ inl (by_doubt since)
         | inr store ↦ inr (
           refl,
           stored_added opens_one opens_two is.new held c.args.group.now new marked is.held_is
@@ -131,7 +131,7 @@ returns-then-is_err-clause-added g c = λ told held suspense is.
     let marked = marked_at is.new c.args.marker is.marked in
     record {
       each = stored_each opens_one opens_two is.new doubt held suspense c.args.group.now old old marked is.held_is is.suspense_is (λ image left. inl (inl (now image (now_alone old image left))));
-      left = inl (stored_doubt opens_one opens_two is.new doubt held suspense old marked is.held_is is.suspense_is (λ image left. inl (now image left)));
+      left = inl (stored_doubt opens_one opens_two is.new doubt held suspense old old marked is.held_is is.suspense_is (λ image left. inl (now image (now_alone old image left))));
       full = λ is_full. absurd (cc);
       sound = λ damage is_damaged all. absurd (cc);
     }
