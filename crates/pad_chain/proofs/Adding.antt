@@ -18,7 +18,8 @@ use Rattle.pad_branch.specs.Held.{marks}
 use Rattle.pad_chain.specs.State.{View, held_of}
 use Rattle.pad_chain.specs.Tie.{StandsFor}
 use Rattle.pad_chain.specs.Inside.Tables.{IsPut, IsSame}
-use Rattle.pad_chain.specs.Inside.Receiving.{IsAdding, IsJoining, IsUntouched}
+use Rattle.pad_chain.specs.Receive.{IsUntouched}
+use Rattle.pad_chain.specs.Inside.Receiving.{IsAdding, IsJoining}
 use Rattle.pad_chain.proofs.Put.{put_marks}
 use Rattle.pad_chain.proofs.Alike.{alike}
 use Rattle.pad_chain.proofs.Arms.{taken_back}

@@ -1,5 +1,5 @@
 -- What a chain knows of the names of the messages received, as one more comes.
-use Rattle.std.proofs.Common.{◌≡◌, ◌≢◌, ◌↔◌, ℕ, ◌⊎◌, inl, inr, List, [], ◌∷◌, length, map, Contains, Result, Ok, Err, OnOk, refl, sym, ap, ◌∙◌, subst}
+use Rattle.std.proofs.Common.{◌≡◌, ◌≢◌, ◌↔◌, ◌⊎◌, inl, inr, List, [], ◌∷◌, length, map, Contains, Result, Ok, Err, OnOk, refl, sym, ap, ◌∙◌, subst}
 use Rattle.std.proofs.lemmas.List.{length-map}
 use Rattle.pad_text.specs.declared.name.Name.{Name}
 use Rattle.pad_message.specs.declared.message.Message.{Message}
@@ -24,7 +24,8 @@ use Rattle.pad_chain.specs.declared.receive_refused.ReceiveRefused.TheVariants.{
 use Rattle.pad_chain.specs.State.{View}
 use Rattle.pad_chain.specs.Knows.{Knows, IsFull}
 use Rattle.pad_chain.specs.Laws.{StoodIsKnown}
-use Rattle.pad_chain.specs.Inside.Receiving.{KeepsNames, UndoesName, IsUntouched}
+use Rattle.pad_chain.specs.Receive.{IsUntouched}
+use Rattle.pad_chain.specs.Inside.Receiving.{KeepsNames, UndoesName}
 
 -- ---- the names that one message more makes known
 
@@ -32,7 +33,7 @@ module _ (b : Base) (m : Message) (R : List Message) where
   known_more : (n : Name) → IsKnown b R n → IsKnown b (m ∷ R) n
   known_more n (x, c, e, apart) = (x, contains_more m R x c, e, apart)
 
-  known_cases : (n : Name) → IsKnown b (m ∷ R) n → (name_of m ≡ n) ⊎ IsKnown b R n
+  pub known_cases : (n : Name) → IsKnown b (m ∷ R) n → (name_of m ≡ n) ⊎ IsKnown b R n
   known_cases n (x, c, e, apart) = go (contains_cases m R x c)
     where
       go : (m ≡ x) ⊎ Contains R x → (name_of m ≡ n) ⊎ IsKnown b R n

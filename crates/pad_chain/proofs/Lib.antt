@@ -1,3 +1,4 @@
+pub mod CallerLemmas
 mod Names
 mod Begun
 mod Ends
@@ -34,3 +35,5 @@ mod KeptPaths
 mod Leading
 mod Handing
 mod Knowing
+mod Ground
+mod Depth

@@ -1,8 +1,11 @@
 -- What becomes of a chain as a message comes.
-use Rattle.std.specs.Prelude.{List, ◌∷◌}
+use Rattle.std.specs.Prelude.{◌≡◌, ℕ, ◌+◌, ◌≤◌, List, ◌∷◌, ◌++◌, length}
+use Rattle.pad_text.specs.declared.name.Name.{Name}
 use Rattle.pad_message.specs.declared.message.Message.{Message}
+use Rattle.pad_graph.specs.State as graph
 use Rattle.pad_model.specs.declared.base.Base.{Base}
-use Rattle.pad_model.specs.Choice.{Choice}
+use Rattle.pad_model.specs.Path.{IsLinkedPath}
+use Rattle.pad_model.specs.Choice.{Choice, RunsThrough}
 use Rattle.pad_chain.specs.declared.moved.Moved.{Moved}
 use Rattle.pad_chain.specs.Moved.{IsMoved}
 use Rattle.pad_chain.specs.State.{View}
@@ -15,3 +18,27 @@ pub record IsReceived (old new : View) (base : Base) (received : List Message) (
   pub chosen : IsChosenNext old.whole base received message choice next
   pub stands : StandsFor new base (message ∷ received) next
   pub path : IsMoved base choice.chosen next.chosen moved
+
+-- what was told as found stays told; what was found since comes first
+abbrev pub KeepsFound : View → View → Type 0
+KeepsFound old new = (more : List Name) × (new.found ≡ more ++ old.found)
+
+-- the branch with its text, the root and what overtook, what was found, and whether it truncates are as they were
+pub record KeepsBranch (old new : View) : Type 0 where
+  pub pruning : new.pruning ≡ old.pruning
+  pub branch : new.branch.branch ≡ old.branch.branch
+  pub found : new.found ≡ old.found
+  pub whole : new.whole ≡ old.whole
+
+-- the chain is as it was, but for how much memory it has
+pub record IsUntouched (old new : View) : Type 0 where
+  pub graph_is : graph.state_of new.graph ≡ graph.state_of old.graph
+  pub messages : new.messages ≡ old.messages
+  pub pruning : new.pruning ≡ old.pruning
+  pub branch : new.branch.branch ≡ old.branch.branch
+  pub found : new.found ≡ old.found
+  pub whole : new.whole ≡ old.whole
+
+-- no linked path through the root goes on from it by more messages than this
+abbrev pub IsWithin : Base → List Message → List Message → ℕ → Type 0
+IsWithin base received root depth = (path : List Message) → IsLinkedPath base received path → RunsThrough root path → length path ≤ length root + depth

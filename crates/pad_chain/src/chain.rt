@@ -111,6 +111,13 @@ fn is_due(since: u64, interval: u16, height: u64) -> bool
     (since + 1) % u64::from(interval) == 0
 }
 
+/// A branch's text is no longer than a text may be: the bound is this function's contract.
+fn text_is_short<S: UnitStore>(branch: &Branch<S>)
+    ensures { length branch.now.branch.units ≤ longest_text }
+{
+    let _ = branch.tip();
+}
+
 impl<S: UnitStore> Chain<S> {
     /// The chain of the first base: sixty-four zeros, the empty text, the usual interval.
     pub fn new(alloc: Global) -> Result<Chain<S>, AllocError>
@@ -204,8 +211,10 @@ impl<S: UnitStore> Chain<S> {
     /// Lends the text after the best chain.
     pub fn text(&self) -> &S
         ensures is { S.units result.now ≡ self.now.branch.branch.units }
+        ensures short { length (S.units result.now) ≤ longest_text }
         ensures stands { (base : Base) (received : List Message) (choice : Choice) → StandsFor self.now base received choice → S.units result.now ≡ text base choice.chosen }
     {
+        text_is_short(&self.branch);
         self.branch.text()
     }
 
@@ -220,6 +229,7 @@ impl<S: UnitStore> Chain<S> {
     /// After how many messages the next checkpoint may come.
     pub fn interval(&self) -> u16
         ensures is { result ≡ (tip_of self.now.branch.branch).interval }
+        ensures may { IsInterval result }
         ensures stands { (base : Base) (received : List Message) (choice : Choice) → StandsFor self.now base received choice → result ≡ interval base choice.chosen }
     {
         self.branch.tip().interval

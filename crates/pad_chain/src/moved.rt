@@ -31,6 +31,13 @@ impl Moves {
     {
         self.items.as_slice()
     }
+
+    /// The moves in a vector, in their order. It only moves the vector.
+    pub fn into_vec(self) -> Vec<Move>
+        ensures { result.items ≡ self }
+    {
+        self.items
+    }
 }
 
 /// How the best chain changed. Both lists are empty where it stayed.

@@ -81,6 +81,7 @@ pub(crate) fn rise<S: UnitStore>(
 )
     ensures raised { (base : Base) (received root upper joined : List Message) → IsTrunk base received root (upper ++ joined) branch.old.branch → pruning.now.root.height ≡ length joined + length root
         → IsTrunk base received (joined ++ root) upper branch.new.branch × ((joined ≡ []) → IsSame (get name_cmp messages.old) (get name_cmp messages.new)) × ((joined ≢ []) → AreLetGo (get name_cmp messages.old) (get name_cmp messages.new) (state_of graph.now).dropped) }
+    ensures units { branch.new.branch.units ≡ branch.old.branch.units }
     ensures fewer { (name : Name) (held : Held) → get name_cmp messages.new name ≡ Some held → get name_cmp messages.old name ≡ Some held }
 {
     let height = pruning.root().height;

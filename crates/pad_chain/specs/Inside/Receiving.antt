@@ -1,5 +1,5 @@
 -- What the steps stand on that a chain makes as a message comes.
-use Rattle.std.specs.Prelude.{◌≡◌, ◌≢◌, ℕ, List, [], ◌∷◌, ◌++◌, Bool, true, false, Some}
+use Rattle.std.specs.Prelude.{◌≡◌, ◌≢◌, ℕ, ◌+◌, ◌*◌, ◌≤◌, List, [], ◌∷◌, ◌++◌, length, All, Bool, true, false, Some}
 use Rattle.std.specs.BTreeSet.{BTreeSet}
 use Rattle.pad_text.specs.declared.name.Name.{Name}
 use Rattle.pad_message.specs.declared.message.Message.{Message}
@@ -25,6 +25,7 @@ use Rattle.pad_branch.specs.Choice.{IsReady}
 use Rattle.pad_branch.specs.Branch.{IsWon}
 use Rattle.pad_chain.specs.declared.moved.Moved.{Moved}
 use Rattle.pad_chain.specs.State.{View, held_of}
+use Rattle.pad_chain.specs.Leads.{Leads}
 use Rattle.pad_chain.specs.Receive.{IsReceived}
 use Rattle.pad_chain.specs.Tie.{StandsFor}
 use Rattle.pad_chain.specs.Inside.Tables.{IsPut}
@@ -55,15 +56,6 @@ pub record IsRaised (base : Base) (links : List Link) (root risen : List Message
   pub at_root : place ≡ place_of base (risen ++ root)
   pub stands : Stands state base.name links (names_of (risen ++ root))
   pub lent : risen ≢ [] → AreDropped base.name links (names_of root) (names_of (risen ++ root)) state.dropped
-
--- the chain is as it was, but for how much memory it has
-pub record IsUntouched (old new : View) : Type 0 where
-  pub graph_is : graph.state_of new.graph ≡ graph.state_of old.graph
-  pub messages : new.messages ≡ old.messages
-  pub pruning : new.pruning ≡ old.pruning
-  pub branch : new.branch.branch ≡ old.branch.branch
-  pub found : new.found ≡ old.found
-  pub whole : new.whole ≡ old.whole
 
 -- what was found out as paths were tested: these names are of messages in which no path ends, and these were found now
 pub record IsFoundOut (before now : View) (base : Base) (received : List Message) (message : Message) (choice : Choice) (linkings : List Linking) (names : BTreeSet Name) (found : List Name) : Type 0 where
@@ -107,3 +99,25 @@ abbrev pub Switches : View → View → BTreeSet Name → List Name → ℕ → 
 Switches now new names found keep come units moved =
     (before : View) (base : Base) (received : List Message) (message : Message) (choice : Choice) (linkings : List Linking) (path : List Message) → (out : IsFoundOut before now base received message choice linkings names found)
     → IsBestThrough base (message ∷ received) choice.root (path ++ choice.root) → IsWon base (message ∷ received) choice.root out.joining.adding.stood.above path now.branch.branch (held_of now) keep come units → IsReceived before new base received message choice moved
+
+-- ---- what a step does, whatever the chain stands for
+
+-- nothing left the best chain, and nothing came onto it
+pub record MovesNothing (moved : Moved) : Type 0 where
+  pub left : moved.reverted ≡ []
+  pub came : moved.applied ≡ []
+
+-- the moves lead from the text of the one to the text of the other
+abbrev pub LeadsOn : View → View → Moved → Type 0
+LeadsOn old new moved = Leads (moved.reverted ++ moved.applied) old.branch.branch.units new.branch.branch.units
+
+-- where nothing was found, a step for each message that left and two for each that came on
+abbrev pub IsFirst : View → View → Moved → ℕ → ℕ → Type 0
+IsFirst old new moved before after = length new.found ≡ length old.found → after ≤ before + length moved.reverted + 2 * length moved.applied
+
+-- three steps for each message of a depth that is at least that of the branch and of the linkings above the root, once more than
+-- messages were found
+abbrev pub Costs : View → View → List Linking → ℕ → ℕ → Type 0
+Costs old new linkings before after =
+    (depth rise : ℕ) → length old.branch.branch.undos ≤ depth → All (λ (linking : Linking). linking.height ≤ old.branch.branch.low + depth) linkings → length new.found ≡ length old.found + rise
+    → after ≤ before + 3 * depth * (rise + 1)

@@ -1,6 +1,6 @@
 //! A message that comes.
 
-ghost use Rattle.std.specs.Prelude.{◌≡◌, ◌≤◌, ◌+◌, List, ◌∷◌, ◌++◌, length, reverse, vec_len, vec_capacity, IfOk, IfErr, OnOk, OnErr, Some, None, Err};
+ghost use Rattle.std.specs.Prelude.{◌≡◌, ◌≤◌, ◌+◌, ◌-◌, ◌*◌, ℕ, List, ◌∷◌, ◌++◌, length, take, reverse, vec_len, vec_capacity, IfOk, IfErr, OnOk, OnErr, Some, None, Err};
 ghost use Rattle.pad_text.specs.declared.name.Name.{Name};
 ghost use Rattle.pad_message.specs.Content.{most_operations};
 ghost use Rattle.pad_message.specs.declared.message.Message.{Message};
@@ -16,14 +16,16 @@ ghost use Rattle.pad_graph.specs.State.{last_added, state_of};
 ghost use Rattle.pad_model.specs.declared.base.Base.{Base};
 ghost use Rattle.pad_model.specs.Path.{NamesDiffer};
 ghost use Rattle.pad_model.specs.Choice.{Choice};
-ghost use Rattle.pad_branch.specs.Branch.{CanSwitch, tip_of, height_of};
+ghost use Rattle.pad_branch.specs.Tip.{tip_after};
+ghost use Rattle.pad_branch.specs.Branch.{CanSwitch, LeadsTo, text_below, tip_of, height_of};
 ghost use Rattle.pad_chain.specs.declared.receive_refused.ReceiveRefused.TheVariants.{Full};
 ghost use Rattle.pad_chain.specs.State.{held_of};
 ghost use Rattle.pad_chain.specs.Tie.{StandsFor};
-ghost use Rattle.pad_chain.specs.Receive.{IsReceived};
+ghost use Rattle.pad_chain.specs.Leads.{Leads};
+ghost use Rattle.pad_chain.specs.Receive.{IsReceived, KeepsFound, KeepsBranch, IsUntouched, IsWithin};
 ghost use Rattle.pad_chain.specs.Knows.{Knows, IsFull};
 ghost use Rattle.pad_chain.specs.Inside.Tables.{IsPut};
-ghost use Rattle.pad_chain.specs.Inside.Receiving.{IsUntouched, KeepsNames, UndoesName, Receives, Refuses, TakesOn, Stays, Switches};
+ghost use Rattle.pad_chain.specs.Inside.Receiving.{KeepsNames, UndoesName, Receives, Refuses, TakesOn, Stays, Switches, MovesNothing, LeadsOn, IsFirst, Costs};
 
 use crate::chain::Chain;
 use crate::moved::{Moved, Moves};
@@ -84,6 +86,16 @@ impl<S: UnitStore> Chain<S> {
         ensures full { IfErr result (λ refused. refused ≡ Full → (graph.standing (state_of self.old.graph) (name_of message) ≡ Unknown) × (self.old.graph.known ≡ MOST_NAMES)) }
         ensures limit { IfErr result (λ refused. refused ≡ Full → (base : Base) (received : List Message) → Knows self.old base received → IsFull base received message) }
         ensures room { OnOk result ((base : Base) (received : List Message) → Knows self.old base received → ¬ (IsFull base received message)) }
+        ensures space { graph.standing (state_of self.old.graph) (name_of message) ≡ Unknown → self.old.graph.known ≡ MOST_NAMES → OnOk result ⊥ }
+        ensures grows { (base : Base) (received : List Message) → Knows self.old base received → self.new.graph.known ≤ self.old.graph.known + 1 }
+        ensures leads { IfOk result (λ moved. Leads (moved.reverted ++ moved.applied) self.old.branch.branch.units self.new.branch.branch.units) }
+        ensures kept { OnOk result (KeepsFound self.old self.new) }
+        ensures same { OnErr result (KeepsBranch self.old self.new) }
+        ensures untouched { IfErr result (λ refused. refused ≡ Full → IsUntouched self.old self.new) }
+        ensures first { IfOk result (λ moved. length self.new.found ≡ length self.old.found → steps.new ≤ steps.old + length moved.reverted + 2 * length moved.applied) }
+        ensures cost { OnOk result ((base : Base) (received : List Message) (choice : Choice) (depth rise : ℕ) → NamesDiffer (message ∷ received) → StandsFor self.old base received choice → IsWithin base (message ∷ received) choice.root depth
+            → length self.new.found ≡ length self.old.found + rise → steps.new ≤ steps.old + 3 * depth * (rise + 1)) }
+        ensures unstepped { IfErr result (λ refused. refused ≡ Full → steps.new ≡ steps.old) }
     {
         let name = message.name(alloc)?;
         self.receive_named(alloc, name, message, steps)
@@ -109,6 +121,15 @@ impl<S: UnitStore> Chain<S> {
         ensures limit { IfErr result (λ refused. refused ≡ Full → (base : Base) (received : List Message) → Knows self.old base received → IsFull base received message) }
         ensures room { graph.standing (state_of self.old.graph) name ≡ Unknown → self.old.graph.known ≡ MOST_NAMES → result ≡ Err Full }
         ensures exact { (base : Base) (received : List Message) → Knows self.old base received → IsFull base received message → result ≡ Err Full }
+        ensures grows { (base : Base) (received : List Message) → Knows self.old base received → self.new.graph.known ≤ self.old.graph.known + 1 }
+        ensures leads { IfOk result (λ moved. Leads (moved.reverted ++ moved.applied) self.old.branch.branch.units self.new.branch.branch.units) }
+        ensures kept { OnOk result (KeepsFound self.old self.new) }
+        ensures same { OnErr result (KeepsBranch self.old self.new) }
+        ensures untouched { IfErr result (λ refused. refused ≡ Full → IsUntouched self.old self.new) }
+        ensures first { IfOk result (λ moved. length self.new.found ≡ length self.old.found → steps.new ≤ steps.old + length moved.reverted + 2 * length moved.applied) }
+        ensures cost { OnOk result ((base : Base) (received : List Message) (choice : Choice) (depth rise : ℕ) → NamesDiffer (message ∷ received) → StandsFor self.old base received choice → IsWithin base (message ∷ received) choice.root depth
+            → length self.new.found ≡ length self.old.found + rise → steps.new ≤ steps.old + 3 * depth * (rise + 1)) }
+        ensures unstepped { IfErr result (λ refused. refused ≡ Full → steps.new ≡ steps.old) }
     {
         self.take_in(alloc, name, message, steps)
     }
@@ -130,6 +151,14 @@ impl<S: UnitStore> Chain<S> {
         ensures knows_still { OnErr result ((base : Base) (received : List Message) → Knows self.old base received → Knows self.new base received) }
         ensures full { IfErr result (λ refused. refused ≡ Full → (graph.standing (state_of self.old.graph) name ≡ Unknown) × (self.old.graph.known ≡ MOST_NAMES)) }
         ensures room { graph.standing (state_of self.old.graph) name ≡ Unknown → self.old.graph.known ≡ MOST_NAMES → result ≡ Err Full }
+        ensures leads { IfOk result (λ moved. Leads (moved.reverted ++ moved.applied) self.old.branch.branch.units self.new.branch.branch.units) }
+        ensures kept { OnOk result (KeepsFound self.old self.new) }
+        ensures same { OnErr result (KeepsBranch self.old self.new) }
+        ensures untouched { IfErr result (λ refused. refused ≡ Full → IsUntouched self.old self.new) }
+        ensures first { IfOk result (λ moved. length self.new.found ≡ length self.old.found → steps.new ≤ steps.old + length moved.reverted + 2 * length moved.applied) }
+        ensures cost { OnOk result ((base : Base) (received : List Message) (choice : Choice) (depth rise : ℕ) → NamesDiffer (message ∷ received) → StandsFor self.old base received choice → IsWithin base (message ∷ received) choice.root depth
+            → length self.new.found ≡ length self.old.found + rise → steps.new ≤ steps.old + 3 * depth * (rise + 1)) }
+        ensures unstepped { IfErr result (λ refused. refused ≡ Full → steps.new ≡ steps.old) }
     {
         stays_chosen();
         nothing_links();
@@ -160,6 +189,8 @@ impl<S: UnitStore> Chain<S> {
         ensures links { OnOk result (KeepsNames self.old self.new) }
         ensures undone { OnErr result (UndoesName self.old self.new) }
         ensures whole { self.new.whole ≡ self.old.whole }
+        ensures none { IfOk result MovesNothing }
+        ensures same { KeepsBranch self.old self.new }
     {
         stays_chosen();
         nothing_links();
@@ -174,6 +205,9 @@ impl<S: UnitStore> Chain<S> {
         ensures received { (message : Message) → Receives self.old self.new message (Below below.now) result }
         ensures links { KeepsNames self.old self.new }
         ensures whole { self.new.whole ≡ self.old.whole }
+        ensures none { MovesNothing result }
+        ensures branch { self.new.branch ≡ self.old.branch }
+        ensures found { self.new.found ≡ self.old.found }
     {
         stays_chosen();
         found_stays();
@@ -203,6 +237,11 @@ impl<S: UnitStore> Chain<S> {
         ensures links { OnOk result (KeepsNames self.old self.new) }
         ensures undone { OnErr result (UndoesName self.old self.new) }
         ensures whole { self.new.whole ≡ self.old.whole }
+        ensures leads { IfOk result (LeadsOn self.old self.new) }
+        ensures kept { OnOk result (KeepsFound self.old self.new) }
+        ensures same { OnErr result (KeepsBranch self.old self.new) }
+        ensures first { IfOk result (λ moved. IsFirst self.old self.new moved steps.old steps.new) }
+        ensures cost { OnOk result (Costs self.old self.new linkings.now steps.old steps.new) }
     {
         best_through_its_root();
         repeat_changes_no_choice();
@@ -248,6 +287,10 @@ impl<S: UnitStore> Chain<S> {
         ensures links { OnOk result (KeepsNames self.old self.new) }
         ensures untouched { OnErr result (IsUntouched self.old self.new) }
         ensures whole { self.new.whole ≡ self.old.whole }
+        ensures leads { IfOk result (LeadsOn self.old self.new) }
+        ensures kept { OnOk result (KeepsFound self.old self.new) }
+        ensures first { IfOk result (λ moved. IsFirst self.old self.new moved steps.old steps.new) }
+        ensures cost { OnOk result (Costs self.old self.new linkings.now steps.old steps.new) }
     {
         best_through_its_root();
         found_stays();
@@ -278,6 +321,9 @@ impl<S: UnitStore> Chain<S> {
         ensures links { OnOk result (KeepsNames self.old self.new) }
         ensures untouched { OnErr result (IsUntouched self.old self.new) }
         ensures whole { self.new.whole ≡ self.old.whole }
+        ensures none { IfOk result MovesNothing }
+        ensures branch { OnOk result (self.new.branch ≡ self.old.branch) }
+        ensures found { OnOk result (self.new.found ≡ reverse found.items ++ self.old.found) }
     {
         repeat_changes_no_choice();
         self.found.reserve(found.len())?;
@@ -295,10 +341,14 @@ impl<S: UnitStore> Chain<S> {
         found: Vec<Name>,
     ) -> Result<Moved, AllocError>
         requires can { CanSwitch self.old.branch.branch won.keep won.undos.items (S.units won.text) }
+        requires leads { LeadsTo (held_of self.old) (text_below self.old.branch.branch won.keep) (tip_after self.old.branch.branch.root (reverse (take won.keep self.old.branch.branch.undos))) (reverse won.undos.items) (S.units won.text) }
         ensures received { IfOk result (Switches self.old self.new pathless (reverse found.items) won.keep won.undos.items (S.units won.text)) }
         ensures links { OnOk result (KeepsNames self.old self.new) }
         ensures untouched { OnErr result (IsUntouched self.old self.new) }
         ensures whole { self.new.whole ≡ self.old.whole }
+        ensures leads { IfOk result (LeadsOn self.old self.new) }
+        ensures many { IfOk result (λ moved. (length moved.reverted ≡ length self.old.branch.branch.undos - won.keep) × (length moved.applied ≡ length won.undos.items)) }
+        ensures found { OnOk result (self.new.found ≡ reverse found.items ++ self.old.found) }
     {
         repeat_changes_no_choice();
         root_stays();

@@ -1,6 +1,7 @@
 use Rattle.std.proofs.Common.{◌≡◌, ◌-◌, ◌<◌, length, refl, ap, subst, arith}
 use Rattle.std.specs.BTreeMap.{get}
 use Rattle.pad_graph.specs.State.{name_cmp, state_of}
+use Rattle.pad_branch.specs.Branch.{State}
 use Rattle.pad_chain.specs.Inside.Tables.{AreLetGo}
 use Rattle.pad_chain.proofs.Settled.{rise_within, rise_some}
 use Rattle.pad_chain.proofs.Entries.{let_go_fewer}
@@ -25,3 +26,6 @@ returns-clause-raised g c b R root upper joined trunk at =
     let gone = subst (AreLetGo (get name_cmp c.args.messages.now) (get name_cmp c.let_go.new.messages)) c.dropped.ensures c.let_go.ensures in
     let both = rise_some b R root upper c.args.branch.now.branch height (get name_cmp c.args.messages.now) joined by (get name_cmp c.let_go.new.messages) (state_of c.args.graph.now).dropped is some gone in
     (c.rise.ensures.stands b R root upper joined trunk is, both.0, both.1)
+
+pub returns-clause-units : goal.returns-clause-units
+returns-clause-units g c = ap (λ (s : State). s.units) c.rise.ensures.branch

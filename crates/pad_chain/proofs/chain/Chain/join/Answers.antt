@@ -1,11 +1,13 @@
-use Rattle.std.proofs.Common.{reverse, Some, None, true, false, Result, Ok, Err, OnErr, refl, sym, ◌∙◌, subst}
+use Rattle.std.proofs.Common.{[], reverse, Some, None, true, false, Result, Ok, Err, OnErr, refl, sym, ap, ◌∙◌, subst, arith}
 use Rattle.std.specs.BTreeMap.{get}
 use Rattle.pad_graph.specs.declared.added.Added.TheVariants.{Linked}
 use Rattle.pad_message.specs.Message.{name_of}
 use Rattle.pad_graph.specs.State.{name_cmp}
 use Rattle.pad_chain.specs.State.{View, held_of}
 use Rattle.pad_chain.specs.Inside.Tables.{IsPut}
-use Rattle.pad_chain.specs.Inside.Receiving.{IsJoining, Receives, Refuses, KeepsNames, UndoesName}
+use Rattle.pad_chain.specs.Receive.{KeepsFound, KeepsBranch}
+use Rattle.pad_chain.specs.Inside.Receiving.{IsJoining, Receives, Refuses, KeepsNames, UndoesName, LeadsOn, IsFirst, Costs}
+use Rattle.pad_chain.proofs.Ground.{none_leads}
 use Rattle.pad_chain.proofs.Arms.{put_held, marked_held}
 use Rattle.pad_chain.proofs.Adding.{adding_on, same_mark, refused_hold, refused_join}
 use Rattle.pad_chain.proofs.Knowing.{keeps_same, keeps_on, undoes_on}
@@ -101,3 +103,47 @@ returns-in-Err-clause-undone g c =
     let mid : View = record old { graph = c.hold_added.new.graph; messages = c.hold_added.new.messages.entries } in
     subst (λ (v : View). UndoesName v c.take_back.new.self) c.self.view_is
     (undoes_on old mid c.take_on.new.self c.take_back.new.self c.in_ok-hold_added.ensures.graph c.in-Err.ensures.untouched c.take_back.ensures.undone)
+
+-- ---- whatever the chain stands for
+
+pub returns-in_err-hold_added-clause-same : goal.returns-in_err-hold_added-clause-same
+returns-in_err-hold_added-clause-same g c =
+    let i = c.self.inside in
+    let old : View = record { graph = i.graph; pruning = i.pruning; messages = i.messages.entries; branch = i.branch; found = reverse i.found.items; whole = i.whole } in
+    let new : View = record old { graph = c.hold_added.new.graph; messages = c.hold_added.new.messages.entries } in
+    on_err c.from_residual.result (subst (λ (v : View). KeepsBranch v new) c.self.view_is (record { pruning = refl; branch = refl; found = refl; whole = refl }))
+
+pub returns-then-has_mark-clause-leads : goal.returns-then-has_mark-clause-leads
+returns-then-has_mark-clause-leads g c =
+    none_leads c.none.result c.args.self.now.branch.branch.units c.self.inside.branch.branch.units (record { left = c.none.ensures.reverted; came = c.none.ensures.applied }) (sym (ap (λ (v : View). v.branch.branch.units) c.self.view_is))
+
+pub returns-then-has_mark-clause-kept : goal.returns-then-has_mark-clause-kept
+returns-then-has_mark-clause-kept g c = ([], ap (λ (v : View). v.found) c.self.view_is)
+
+pub returns-then-has_mark-clause-first : goal.returns-then-has_mark-clause-first
+returns-then-has_mark-clause-first g c same = omega arith
+
+pub returns-then-has_mark-clause-cost : goal.returns-then-has_mark-clause-cost
+returns-then-has_mark-clause-cost g c depth rise long high e = omega arith
+
+pub returns-in-Ok-clause-leads : goal.returns-in-Ok-clause-leads
+returns-in-Ok-clause-leads g c = subst (λ (v : View). LeadsOn v c.take_on.new.self c.in-Ok.moved) c.self.view_is c.in-Ok.ensures.leads
+
+pub returns-in-Ok-clause-kept : goal.returns-in-Ok-clause-kept
+returns-in-Ok-clause-kept g c = subst (λ (v : View). KeepsFound v c.take_on.new.self) c.self.view_is c.in-Ok.ensures.kept
+
+pub returns-in-Ok-clause-first : goal.returns-in-Ok-clause-first
+returns-in-Ok-clause-first g c = subst (λ (v : View). IsFirst v c.take_on.new.self c.in-Ok.moved c.args.steps.now c.take_on.new.steps) c.self.view_is c.in-Ok.ensures.first
+
+pub returns-in-Ok-clause-cost : goal.returns-in-Ok-clause-cost
+returns-in-Ok-clause-cost g c = subst (λ (v : View). Costs v c.take_on.new.self c.args.linkings.now c.args.steps.now c.take_on.new.steps) c.self.view_is c.in-Ok.ensures.cost
+
+pub returns-in-Err-clause-same : goal.returns-in-Err-clause-same
+returns-in-Err-clause-same g c =
+    let i = c.self.inside in
+    let old : View = record { graph = i.graph; pruning = i.pruning; messages = i.messages.entries; branch = i.branch; found = reverse i.found.items; whole = i.whole } in
+    let mid : View = record old { graph = c.hold_added.new.graph; messages = c.hold_added.new.messages.entries } in
+    let same = c.in-Err.ensures.untouched in
+    let rest = c.take_back.ensures.rest in
+    subst (λ (v : View). KeepsBranch v c.take_back.new.self) c.self.view_is
+    (record { pruning = ap (λ (v : View). v.pruning) rest ∙ same.pruning; branch = ap (λ (v : View). v.branch.branch) rest ∙ same.branch; found = ap (λ (v : View). v.found) rest ∙ same.found; whole = ap (λ (v : View). v.whole) rest ∙ same.whole })

@@ -30,3 +30,12 @@ returns-clause-links g c =
     let old : View = record { graph = i.graph; pruning = i.pruning; messages = i.messages.entries; branch = i.branch; found = reverse i.found.items; whole = i.whole } in
     let new : View = record old { pruning = c.count_below.new.self; messages = c.let_go.new.messages.entries } in
     subst (λ (v : View). KeepsNames v new) c.self.view_is (keeps_same old new refl)
+
+pub returns-clause-none : goal.returns-clause-none
+returns-clause-none g c = record { left = c.none.ensures.reverted; came = c.none.ensures.applied }
+
+pub returns-clause-branch : goal.returns-clause-branch
+returns-clause-branch g c = ap (λ (v : View). v.branch) c.self.view_is
+
+pub returns-clause-found : goal.returns-clause-found
+returns-clause-found g c = ap (λ (v : View). v.found) c.self.view_is

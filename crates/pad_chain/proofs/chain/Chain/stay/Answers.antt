@@ -31,3 +31,13 @@ returns-clause-links g c =
     let old : View = record { graph = i.graph; pruning = i.pruning; messages = i.messages.entries; branch = i.branch; found = reverse i.found.items; whole = i.whole } in
     let new : View = record old { messages = c.note.new.messages.entries; found = reverse c.add_found.new.found.items } in
     subst (λ (v : View). KeepsNames v new) c.self.view_is (keeps_same old new refl)
+
+pub returns-clause-none : goal.returns-clause-none
+returns-clause-none g c = record { left = c.none.ensures.reverted; came = c.none.ensures.applied }
+
+pub returns-clause-branch : goal.returns-clause-branch
+returns-clause-branch g c = ap (λ (v : View). v.branch) c.self.view_is
+
+pub returns-clause-found : goal.returns-clause-found
+returns-clause-found g c =
+    ap reverse c.add_found.ensures ∙ reverse-append c.reserve.new.self.items c.args.found.items ∙ ap (λ (xs : List Name). reverse c.args.found.items ++ reverse xs) c.in_ok-reserve.ensures.items ∙ ap (λ (v : View). reverse c.args.found.items ++ v.found) c.self.view_is

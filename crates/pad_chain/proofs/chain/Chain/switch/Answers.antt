@@ -1,5 +1,5 @@
-use Rattle.std.proofs.Common.{◌≡◌, ℕ, ◌-◌, List, ◌∷◌, ◌++◌, length, take, map, reverse, refl, sym, ap, ◌∙◌, subst}
-use Rattle.std.proofs.lemmas.List.{reverse-append}
+use Rattle.std.proofs.Common.{◌≡◌, ℕ, ◌-◌, List, ◌∷◌, ◌++◌, length, take, map, reverse, refl, sym, ap, ◌∙◌, subst, arith}
+use Rattle.std.proofs.lemmas.List.{reverse-append, length-map, length-reverse, length-take}
 use Rattle.std.specs.BTreeMap.{get}
 use Rattle.pad_text.specs.declared.name.Name.{Name}
 use Rattle.pad_graph.specs.State.{name_cmp, state_of}
@@ -9,12 +9,17 @@ use Rattle.pad_branch.specs.declared.moved.Move.{Move}
 use Rattle.pad_branch.specs.Undo.{undone_name}
 use Rattle.pad_branch.specs.Held.{messages_at}
 use Rattle.pad_branch.specs.Move.{move_back, move_on}
-use Rattle.pad_branch.specs.Branch.{State, IsTrunk, switched}
+use Rattle.pad_branch.specs.Tip.{tip_after}
+use Rattle.pad_branch.specs.Branch.{State, IsTrunk, LeadsTo, switched, text_below}
 use Rattle.pad_checkpoint.specs.Settled.{IsRooted}
 use Rattle.pad_checkpoint.specs.Links.{link_of}
 use Rattle.pad_chain.specs.Inside.Marks.{marks_from, NoneIsCheckpoint}
 use Rattle.pad_chain.specs.Inside.Receiving.{Switches, KeepsNames}
+use Rattle.pad_chain.specs.declared.moved.Moved.{Moved}
+use Rattle.pad_chain.specs.Leads.{Leads}
 use Rattle.pad_chain.proofs.Arms.{fewer_held}
+use Rattle.pad_chain.proofs.Ground.{came_many}
+use Rattle.pad_chain.proofs.Leading.{switch_leads}
 use Rattle.pad_chain.proofs.Noting.{noted_held}
 use Rattle.pad_chain.proofs.Settled.{rooted}
 use Rattle.pad_chain.proofs.NoCut.{no_rise}
@@ -57,3 +62,43 @@ returns-clause-links g c =
     let old : View = record { graph = i.graph; pruning = i.pruning; messages = i.messages.entries; branch = i.branch; found = reverse i.found.items; whole = i.whole } in
     let new : View = record old { graph = c.settle.new.graph; pruning = c.settle.new.pruning; messages = c.note.new.messages.entries; branch = c.rise.new.branch; found = reverse c.add_found.new.found.items } in
     subst (λ (v : View). KeepsNames v new) c.self.view_is c.in_ok-settle.ensures.links
+
+-- ---- whatever the chain stands for
+
+pub returns-clause-leads : goal.returns-clause-leads
+returns-clause-leads g c =
+    let i = c.self.inside in
+    let won = c.args.won in
+    let units : List ℕ = g.S.UnitStore.units won.text in
+    let come : List Undo = won.undos.items in
+    let br : State = i.branch.branch in
+    let here : c.reserve-2.new.self.branch ≡ br = c.in_ok-reserve-2.ensures.same in
+    let old : View = record { graph = i.graph; pruning = i.pruning; messages = i.messages.entries; branch = i.branch; found = reverse i.found.items; whole = i.whole } in
+    let back : c.new.result ≡ map move_back (take (length br.undos - won.keep) (reverse br.undos)) = c.new.ensures ∙ c.switch_to.ensures.reverted ∙ ap (λ (xs : List Move). xs ++ map move_back (take (length c.reserve-2.new.self.branch.undos - won.keep) (reverse c.reserve-2.new.self.branch.undos))) (c.in_ok-reserve.ensures.items ∙ c.new-leaves.ensures.items) ∙ ap (λ (s : State). map move_back (take (length s.undos - won.keep) (reverse s.undos))) here in
+    let on : c.new-2.result ≡ map move_on (messages_at (held_of old) (map undone_name come)) = c.new-2.ensures ∙ c.in_ok-comes.ensures ∙ ap (λ (us : List Undo). map move_on (messages_at (held_of old) (map undone_name us))) c.as_slice.ensures.value in
+    let told = subst (λ (v : View). LeadsTo (held_of v) (text_below v.branch.branch won.keep) (tip_after v.branch.branch.root (reverse (take won.keep v.branch.branch.undos))) (reverse come) units) (sym c.self.view_is) c.requires.leads in
+    let moved : Moved = record { reverted = c.new.result; applied = c.new-2.result } in
+    let ended : c.rise.new.branch.branch.units ≡ units = c.rise.ensures.units ∙ ap (λ (s : State). s.units) c.switch_to.ensures.branch in
+    subst (λ (v : View). Leads (c.new.result ++ c.new-2.result) v.branch.branch.units c.rise.new.branch.branch.units) c.self.view_is
+    (subst (Leads (c.new.result ++ c.new-2.result) br.units) (sym ended) (switch_leads br (held_of old) won.keep come (tip_after br.root (reverse (take won.keep br.undos))) units moved c.undos.ensures.rewinds told back on))
+
+pub returns-clause-many : goal.returns-clause-many
+returns-clause-many g c =
+    let i = c.self.inside in
+    let won = c.args.won in
+    let units : List ℕ = g.S.UnitStore.units won.text in
+    let come : List Undo = won.undos.items in
+    let br : State = i.branch.branch in
+    let here : c.reserve-2.new.self.branch ≡ br = c.in_ok-reserve-2.ensures.same in
+    let old : View = record { graph = i.graph; pruning = i.pruning; messages = i.messages.entries; branch = i.branch; found = reverse i.found.items; whole = i.whole } in
+    let back : c.new.result ≡ map move_back (take (length br.undos - won.keep) (reverse br.undos)) = c.new.ensures ∙ c.switch_to.ensures.reverted ∙ ap (λ (xs : List Move). xs ++ map move_back (take (length c.reserve-2.new.self.branch.undos - won.keep) (reverse c.reserve-2.new.self.branch.undos))) (c.in_ok-reserve.ensures.items ∙ c.new-leaves.ensures.items) ∙ ap (λ (s : State). map move_back (take (length s.undos - won.keep) (reverse s.undos))) here in
+    let on : c.new-2.result ≡ map move_on (messages_at (held_of old) (map undone_name come)) = c.new-2.ensures ∙ c.in_ok-comes.ensures ∙ ap (λ (us : List Undo). map move_on (messages_at (held_of old) (map undone_name us))) c.as_slice.ensures.value in
+    let told = subst (λ (v : View). LeadsTo (held_of v) (text_below v.branch.branch won.keep) (tip_after v.branch.branch.root (reverse (take won.keep v.branch.branch.undos))) (reverse come) units) (sym c.self.view_is) c.requires.leads in
+    let size : length br.undos ≡ length c.args.self.now.branch.branch.undos = ap (λ (v : View). length v.branch.branch.undos) c.self.view_is in (
+      omega (arith, ap length back, length-map (take (length br.undos - won.keep) (reverse br.undos)) move_back, length-take (length br.undos - won.keep) (reverse br.undos), length-reverse br.undos, size),
+      ap length on ∙ came_many (held_of old) (text_below br won.keep) (tip_after br.root (reverse (take won.keep br.undos))) come units told,
+    )
+
+pub returns-clause-found : goal.returns-clause-found
+returns-clause-found g c =
+    ap reverse c.add_found.ensures ∙ reverse-append c.reserve-3.new.self.items c.args.found.items ∙ ap (λ (xs : List Name). reverse c.args.found.items ++ reverse xs) c.in_ok-reserve-3.ensures.items ∙ ap (λ (v : View). reverse c.args.found.items ++ v.found) c.self.view_is

@@ -1,4 +1,5 @@
-use Rattle.std.proofs.Common.{List, ◌∷◌, reverse, Result, Ok, Err, OnErr, refl, sym, ap, ◌∙◌, subst}
+use Rattle.std.proofs.Common.{◌≡◌, ◌≤◌, ℕ, ◌+◌, ◌*◌, List, [], ◌∷◌, length, reverse, Result, Ok, Err, OnErr, refl, sym, ap, ◌∙◌, subst}
+use Rattle.pad_branch.specs.Branch as branch
 use Rattle.pad_graph.specs.declared.added.Added.{Added}
 use Rattle.pad_graph.specs.declared.added.Added.TheVariants.{Known, Waiting, Below, Linked}
 use Rattle.pad_message.specs.declared.message.Message.{Message}
@@ -9,7 +10,10 @@ use Rattle.pad_model.specs.Path.{NamesDiffer}
 use Rattle.pad_model.specs.Choice.{Choice}
 use Rattle.pad_checkpoint.specs.Links.{names_of}
 use Rattle.pad_chain.specs.Tie.{StandsFor}
-use Rattle.pad_chain.specs.Receive.{IsReceived}
+use Rattle.pad_chain.specs.Receive.{IsReceived, KeepsFound, KeepsBranch, IsUntouched, IsWithin}
+use Rattle.pad_chain.specs.Inside.Receiving.{LeadsOn, IsFirst}
+use Rattle.pad_chain.proofs.Ground.{at_err, none_leads, branch_on}
+use Rattle.pad_chain.proofs.Depth.{branch_within, linkings_within}
 use Rattle.pad_chain.specs.Knows.{Knows}
 use Rattle.pad_chain.proofs.Arms.{known_received}
 use Rattle.pad_chain.proofs.Adding.{is_adding}
@@ -151,3 +155,85 @@ returns-in_ok-moved-in-Linked-clause-knows g c =
     let ls = c.as_slice.result.now in
     subst (λ (v : View). (b : Base) (R : List Message) → Knows v b R → Knows c.join.new.self b (m ∷ R)) c.self.view_is
     (λ b R k. knows_more old mid b R m c.args.name (Linked ls) c.requires.named (subst (λ (a : Added). Tells old mid c.args.name m a) (c.in-Linked.is ∙ ap Linked (sym c.as_slice.ensures)) c.in_ok-add.ensures.stands) k c.join.new.self c.in_ok-moved-in-Linked.ensures.links)
+
+-- ---- whatever the chain stands for
+
+pub returns-in_err-add-clause-same : goal.returns-in_err-add-clause-same
+returns-in_err-add-clause-same g c =
+    let i = c.self.inside in
+    let old : View = record { graph = i.graph; pruning = i.pruning; messages = i.messages.entries; branch = i.branch; found = reverse i.found.items; whole = i.whole } in
+    let mid : View = record old { graph = c.add.new.self } in
+    on_err c.from_residual.result (subst (λ (v : View). KeepsBranch v mid) c.self.view_is (record { pruning = refl; branch = refl; found = refl; whole = refl }))
+
+pub returns-in_err-add-clause-untouched : goal.returns-in_err-add-clause-untouched
+returns-in_err-add-clause-untouched g c =
+    let i = c.self.inside in
+    let old : View = record { graph = i.graph; pruning = i.pruning; messages = i.messages.entries; branch = i.branch; found = reverse i.found.items; whole = i.whole } in
+    let mid : View = record old { graph = c.add.new.self } in
+    at_err c.from_residual.result (λ refused why. subst (λ (v : View). IsUntouched v mid) c.self.view_is (record { graph_is = c.in_err-add.ensures.err; messages = refl; pruning = refl; branch = refl; found = refl; whole = refl }))
+
+pub returns-in-Known-clause-leads : goal.returns-in-Known-clause-leads
+returns-in-Known-clause-leads g c =
+    none_leads c.none.result c.args.self.now.branch.branch.units c.self.inside.branch.branch.units (record { left = c.none.ensures.reverted; came = c.none.ensures.applied }) (sym (ap (λ (v : View). v.branch.branch.units) c.self.view_is))
+
+pub returns-in-Known-clause-kept : goal.returns-in-Known-clause-kept
+returns-in-Known-clause-kept g c = ([], ap (λ (v : View). v.found) c.self.view_is)
+
+pub returns-in_err-moved-in-Waiting-clause-same : goal.returns-in_err-moved-in-Waiting-clause-same
+returns-in_err-moved-in-Waiting-clause-same g c =
+    let i = c.self.inside in
+    let old : View = record { graph = i.graph; pruning = i.pruning; messages = i.messages.entries; branch = i.branch; found = reverse i.found.items; whole = i.whole } in
+    let mid : View = record old { graph = c.add.new.self } in
+    on_err c.from_residual-in_err-moved-in-Waiting.result (subst (λ (v : View). KeepsBranch v c.wait.new.self) c.self.view_is (branch_on old mid c.wait.new.self c.wait.ensures.same refl refl refl refl))
+
+pub returns-in_ok-moved-in-Waiting-clause-leads : goal.returns-in_ok-moved-in-Waiting-clause-leads
+returns-in_ok-moved-in-Waiting-clause-leads g c =
+    let i = c.self.inside in
+    let old : View = record { graph = i.graph; pruning = i.pruning; messages = i.messages.entries; branch = i.branch; found = reverse i.found.items; whole = i.whole } in
+    let mid : View = record old { graph = c.add.new.self } in
+    subst (λ (v : View). LeadsOn v c.wait.new.self c.in_ok-moved-in-Waiting.moved) c.self.view_is
+    (none_leads c.in_ok-moved-in-Waiting.moved i.branch.branch.units c.wait.new.self.branch.branch.units c.in_ok-moved-in-Waiting.ensures.none (sym (ap (λ (s : branch.State). s.units) c.wait.ensures.same.branch)))
+
+pub returns-in_ok-moved-in-Waiting-clause-kept : goal.returns-in_ok-moved-in-Waiting-clause-kept
+returns-in_ok-moved-in-Waiting-clause-kept g c = ([], c.wait.ensures.same.found ∙ ap (λ (v : View). v.found) c.self.view_is)
+
+pub returns-in-Below-clause-leads : goal.returns-in-Below-clause-leads
+returns-in-Below-clause-leads g c =
+    let i = c.self.inside in
+    let old : View = record { graph = i.graph; pruning = i.pruning; messages = i.messages.entries; branch = i.branch; found = reverse i.found.items; whole = i.whole } in
+    let mid : View = record old { graph = c.add.new.self } in
+    subst (λ (v : View). LeadsOn v c.pass_below.new.self c.pass_below.result) c.self.view_is
+    (none_leads c.pass_below.result i.branch.branch.units c.pass_below.new.self.branch.branch.units c.pass_below.ensures.none (sym (ap (λ (v : branch.View). v.branch.units) c.pass_below.ensures.branch)))
+
+pub returns-in-Below-clause-kept : goal.returns-in-Below-clause-kept
+returns-in-Below-clause-kept g c = ([], c.pass_below.ensures.found ∙ ap (λ (v : View). v.found) c.self.view_is)
+
+pub returns-in_err-moved-in-Linked-clause-same : goal.returns-in_err-moved-in-Linked-clause-same
+returns-in_err-moved-in-Linked-clause-same g c =
+    let i = c.self.inside in
+    let old : View = record { graph = i.graph; pruning = i.pruning; messages = i.messages.entries; branch = i.branch; found = reverse i.found.items; whole = i.whole } in
+    let mid : View = record old { graph = c.add.new.self } in
+    on_err c.from_residual-in_err-moved-in-Linked.result (subst (λ (v : View). KeepsBranch v c.join.new.self) c.self.view_is (branch_on old mid c.join.new.self c.in_err-moved-in-Linked.ensures.same refl refl refl refl))
+
+pub returns-in_ok-moved-in-Linked-clause-leads : goal.returns-in_ok-moved-in-Linked-clause-leads
+returns-in_ok-moved-in-Linked-clause-leads g c = subst (λ (v : View). LeadsOn v c.join.new.self c.in_ok-moved-in-Linked.moved) c.self.view_is c.in_ok-moved-in-Linked.ensures.leads
+
+pub returns-in_ok-moved-in-Linked-clause-kept : goal.returns-in_ok-moved-in-Linked-clause-kept
+returns-in_ok-moved-in-Linked-clause-kept g c = subst (λ (v : View). KeepsFound v c.join.new.self) c.self.view_is c.in_ok-moved-in-Linked.ensures.kept
+
+-- ---- in how many steps
+
+pub returns-in_ok-moved-in-Linked-clause-first : goal.returns-in_ok-moved-in-Linked-clause-first
+returns-in_ok-moved-in-Linked-clause-first g c = subst (λ (v : View). IsFirst v c.join.new.self c.in_ok-moved-in-Linked.moved c.args.steps.now c.join.new.steps) c.self.view_is c.in_ok-moved-in-Linked.ensures.first
+
+pub returns-in_ok-moved-in-Linked-clause-cost : goal.returns-in_ok-moved-in-Linked-clause-cost
+returns-in_ok-moved-in-Linked-clause-cost g c =
+    let i = c.self.inside in
+    let m = c.args.message in
+    let old : View = record { graph = i.graph; pruning = i.pruning; messages = i.messages.entries; branch = i.branch; found = reverse i.found.items; whole = i.whole } in
+    let mid : View = record old { graph = c.add.new.self } in
+    let ls = c.as_slice.result.now in
+    subst (λ (v : View). (b : Base) (R : List Message) (choice : Choice) (depth rise : ℕ) → NamesDiffer (m ∷ R) → StandsFor v b R choice → IsWithin b (m ∷ R) choice.root depth → length c.join.new.self.found ≡ length v.found + rise → c.join.new.steps ≤ c.args.steps.now + 3 * depth * (rise + 1)) c.self.view_is
+    (λ b R choice depth rise d s within e.
+    let a = is_adding old b R m choice mid c.args.name c.in_ok-add.field-0 (Linked c.as_slice.result.now) c.requires.named (c.in-Linked.is ∙ ap Linked (sym c.as_slice.ensures)) s c.in_ok-add.ensures.stands in
+    c.in_ok-moved-in-Linked.ensures.cost depth rise (branch_within b R m choice old a.stood depth within) (linkings_within b R m choice old a.stood depth within ls d a.told) e)
