@@ -17,3 +17,4 @@ mod Turn
 mod Turns
 mod Undone
 mod Way
+pub mod CallerLemmas

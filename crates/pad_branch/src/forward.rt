@@ -19,11 +19,11 @@ ghost use Rattle.pad_branch.specs.Inside.Forward.{IsAt, StopsAt};
 
 use crate::held::Held;
 use crate::position::Position;
-use crate::sound::is_sound;
 use crate::tip::Tip;
 use crate::undo::Undo;
 use pad_message::{Kind, Message};
 use pad_patch::{Steps, UnitStore};
+use pad_sound::is_sound;
 use pad_text::Name;
 use std::alloc::{AllocError, Global};
 use std::collections::BTreeMap;
@@ -89,7 +89,13 @@ fn grow<S: UnitStore, L: Ledger>(
     ensures two { IfOk result (λ found. IsSome found → steps.new ≡ steps.old + 2) }
     ensures nothing { IfOk result (λ found. IsNone found → steps.new ≡ steps.old) }
 {
-    if !is_sound(message, at) {
+    if !is_sound(
+        message,
+        at.tip.since + 1,
+        at.tip.interval,
+        &at.text,
+        &at.tip.hash,
+    ) {
         return Ok(None);
     }
     let text = message.patch.apply_counted(alloc, &at.text, steps)?;

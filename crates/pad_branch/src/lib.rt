@@ -26,7 +26,6 @@ mod passing;
 mod plan;
 mod position;
 mod rewind;
-mod sound;
 mod tested;
 mod tip;
 mod undo;

@@ -1,15 +1,13 @@
-//! Whether a message is sound.
-
-ghost use Rattle.std.specs.Prelude.{◌≡◌, ◌<◌, ◌+◌, ◌^◌, ◌↔◌, ℕ, length, IsTrue};
+ghost use Rattle.std.specs.Prelude.{◌≡◌, ◌<◌, ◌↔◌, length, IsTrue};
 ghost use Rattle.std.specs.Bool.{OnTrue};
+ghost use Rattle.pad_text.specs.Hash.{document_hash};
 ghost use Rattle.pad_patch.specs.Misfit.{CanApply};
 ghost use Rattle.pad_message.specs.Adopt.{IsWhole};
 ghost use Rattle.pad_model.specs.Sound.{IsSound};
 
-use crate::position::Position;
-use pad_message::{Kind, Message};
+use pad_message::Message;
 use pad_patch::UnitStore;
-use pad_text::Text;
+use pad_text::{Name, Text};
 
 /// Whether the store has this text.
 fn is_same<S: UnitStore>(store: &S, text: &Text) -> bool
@@ -38,19 +36,27 @@ fn is_whole<S: UnitStore>(message: &Message, text: &S) -> bool
     whole.offset == 0 && whole.remove as usize == text.length() && is_same(text, &whole.insert)
 }
 
-/// Whether the message is sound at the position.
-pub(crate) fn is_sound<S: UnitStore>(message: &Message, at: &Position<S>) -> bool
-    requires { at.now.tip.since + 1 < 2 ^ 64 }
-    ensures sound { IsTrue result ↔ IsSound message.now (at.now.tip.since + 1) at.now.tip.interval (S.units at.now.text) }
-    ensures applies { OnTrue result (CanApply message.now.patch (S.units at.now.text)) }
+/// Whether a message is sound on a text, where `distance` is its height above the last checkpoint before it, or above the
+/// base, and `interval` is the interval in force there. `hash` is the text's document hash. It takes no memory.
+pub fn is_sound<S: UnitStore>(
+    message: &Message,
+    distance: u64,
+    interval: u16,
+    text: &S,
+    hash: &Name,
+) -> bool
+    requires above { 0 < distance }
+    requires hash { hash.now ≡ document_hash (S.units text.now) }
+    ensures sound { IsTrue result ↔ IsSound message.now distance interval (S.units text.now) }
+    ensures applies { OnTrue result (CanApply message.now.patch (S.units text.now)) }
 {
-    if let Kind::Checkpoint(_) = message.kind {
-        if (at.tip.since + 1) % u64::from(at.tip.interval) != 0 {
+    if message.kind.is_checkpoint() {
+        if distance.checked_rem(u64::from(interval)) != Some(0) {
             return false;
         }
-        if !is_whole(message, &at.text) {
+        if !is_whole(message, text) {
             return false;
         }
     }
-    message.patch.fits(&at.text, &at.tip.hash).is_ok()
+    message.patch.fits(text, hash).is_ok()
 }
