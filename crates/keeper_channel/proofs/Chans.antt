@@ -1,7 +1,7 @@
 -- Laws of a channel's list, over lists alone.
-use Rattle.std.proofs.Common.{◌≡◌, ◌∙◌, inl, inr, ◌⊎◌, ℕ, zero, suc, ◌+◌, ◌<◌, ◌≤◌, arith, Bool, true, false, List, [], ◌∷◌, ◌++◌, length, take, None, Some, Option, MatchBool, refl, sym, ap, subst}
+use Rattle.std.proofs.Common.{◌≡◌, ◌∙◌, inl, inr, ◌⊎◌, ℕ, zero, suc, ◌+◌, ◌<◌, ◌≤◌, arith, Bool, true, false, List, [], ◌∷◌, ◌++◌, length, take, drop, None, Some, Option, MatchBool, refl, sym, ap, subst}
 use Rattle.std.specs.Prelude.{slice_get, ◌==◌}
-use Rattle.std.proofs.lemmas.List.{take_more, nil_from_length}
+use Rattle.std.proofs.lemmas.List.{take_more, take-take, take-append-drop, drop-take, nil_from_length}
 use Rattle.std.proofs.lemmas.Option.{slice_get_within, get_or_from_slice_get}
 use Rattle.keeper_channel.specs.Chan.{MarkerAt, has_marker, unmarked, at_moment_zero, moved, IsChan, IsList, IsWithin, doubt_if}
 use Rattle.gated_log.specs.Ledger.{LeavesOut}
@@ -102,6 +102,25 @@ moved_more old index payload got =
     sym (moved_push (take index old) payload)
     ∙ ap moved (ap (λ (p : List ℕ). take index old ++ p ∷ []) (sym (get_or_from_slice_get old index payload payload got)) ∙ sym (take_more old index payload within))
 
+-- what stands in the rest of a list
+pub get_drop : (old : List (List ℕ)) (first index : ℕ) → slice_get (drop first old) index ≡ slice_get old (first + index)
+get_drop old zero index = let same : index ≡ zero + index = omega arith in ap (slice_get old) same
+get_drop [] (suc first) index = refl
+get_drop (payload ∷ old) (suc first) index = let same : suc (first + index) ≡ suc first + index = omega arith in get_drop old first index ∙ ap (slice_get (payload ∷ old)) same
+
+take_then : (old : List (List ℕ)) (first many : ℕ) → take (first + many) old ≡ take first old ++ take many (drop first old)
+take_then old first many =
+    sym (take-append-drop first (take (first + many) old)) ∙ ap (λ (l : List (List ℕ)). l ++ drop first (take (first + many) old)) (take-take first (first + many) old (omega arith))
+    ∙ ap (λ (l : List (List ℕ)). take first old ++ l) (drop-take first many old)
+
+pub moved_append : (front back : List (List ℕ)) → moved (front ++ back) ≡ moved front ++ moved back
+moved_append [] back = refl
+moved_append (payload ∷ front) back = ap (λ (l : List (List ℕ)). at_moment_zero payload ∷ l) (moved_append front back)
+
+-- a group more of those to move
+pub moved_group : (old : List (List ℕ)) (first many : ℕ) → moved (take first old) ++ moved (take many (drop first old)) ≡ moved (take (first + many) old)
+moved_group old first many = sym (ap moved (take_then old first many) ∙ moved_append (take first old) (take many (drop first old)))
+
 -- files whose log of form two has no marker are what form one opens as, moved
 pub unmoved_list : (opens_one opens_two : (List ℕ → List ℕ) → List (List ℕ) → Type 0) (files : List ℕ → List ℕ) (two old : List (List ℕ))
     → opens_two files two → has_marker two ≡ false → opens_one files old → IsList opens_one opens_two files (moved old)
@@ -131,15 +150,15 @@ none_more payloads index payload got long none =
     take_more payloads index payload within ∙ ap (λ (p : List ℕ). take index payloads ++ p ∷ []) (get_or_from_slice_get payloads index payload payload got) in
     ap has_marker more ∙ unmarked_append (take index payloads) (payload ∷ []) none (one_unmarked payload long)
 
--- a log that may have one moved entry more is still what form one opens as
-pub adding_unmoved : (opens_one opens_two : (List ℕ → List ℕ) → List (List ℕ) → Type 0) (files : List ℕ → List ℕ) (done doubt old : List (List ℕ)) (payload : List ℕ)
-    → has_marker done ≡ false → doubt ≡ [] → has_marker (payload ∷ []) ≡ false → opens_one files old → IsAdding (opens_two files) done doubt (payload ∷ []) → IsList opens_one opens_two files (moved old)
-adding_unmoved opens_one opens_two files done doubt old payload none sure one is (inl (inl opened)) = unmoved_list opens_one opens_two files done old opened none is
-adding_unmoved opens_one opens_two files done doubt old payload none sure one is (inl (inr opened)) =
+-- a log that may have moved entries more is still what form one opens as
+pub adding_unmoved : (opens_one opens_two : (List ℕ → List ℕ) → List (List ℕ) → Type 0) (files : List ℕ → List ℕ) (done doubt old added : List (List ℕ))
+    → has_marker done ≡ false → doubt ≡ [] → has_marker added ≡ false → opens_one files old → IsAdding (opens_two files) done doubt added → IsList opens_one opens_two files (moved old)
+adding_unmoved opens_one opens_two files done doubt old added none sure none_added is (inl (inl opened)) = unmoved_list opens_one opens_two files done old opened none is
+adding_unmoved opens_one opens_two files done doubt old added none sure none_added is (inl (inr opened)) =
     unmoved_list opens_one opens_two files (done ++ doubt) old opened (unmarked_append done doubt none (ap has_marker sure)) is
-adding_unmoved opens_one opens_two files done doubt old payload none sure one is (inr (inl opened)) = unmoved_list opens_one opens_two files done old opened none is
-adding_unmoved opens_one opens_two files done doubt old payload none sure one is (inr (inr opened)) =
-    unmoved_list opens_one opens_two files (done ++ payload ∷ []) old opened (unmarked_append done (payload ∷ []) none one) is
+adding_unmoved opens_one opens_two files done doubt old added none sure none_added is (inr (inl opened)) = unmoved_list opens_one opens_two files done old opened none is
+adding_unmoved opens_one opens_two files done doubt old added none sure none_added is (inr (inr opened)) =
+    unmoved_list opens_one opens_two files (done ++ added) old opened (unmarked_append done added none none_added) is
 
 -- the marker behind moved entries
 pub adding_marker : (opens_one opens_two : (List ℕ → List ℕ) → List (List ℕ) → Type 0) (files : List ℕ → List ℕ) (doubt old : List (List ℕ))

@@ -1,6 +1,5 @@
 -- Laws of the room behind a channel's list.
-use Rattle.std.proofs.Common.{◌≡◌, ◌∙◌, ℕ, ◌+◌, ◌*◌, ◌≤◌, ◌&&◌, nat_le, arith, true, false, List, [], ◌∷◌, ◌++◌, length, take, drop, Some, refl, sym, ap, length-append, zero-add}
-use Rattle.std.specs.Prelude.{slice_get}
+use Rattle.std.proofs.Common.{◌≡◌, ◌∙◌, ℕ, ◌+◌, ◌*◌, ◌≤◌, ◌&&◌, nat_le, arith, true, false, List, [], ◌∷◌, ◌++◌, length, take, drop, sym, ap, length-append, zero-add}
 use Rattle.std.proofs.lemmas.Bool.Decides.{leb_tells}
 use Rattle.std.proofs.lemmas.List.{take-append-drop}
 use Rattle.std.proofs.lemmas.List.Sums.{sum_by-append, sum_by-cons}
@@ -9,8 +8,8 @@ use Rattle.log_format.specs.Form.{most_entries_of, most_bytes_of}
 use Rattle.log_format.specs.declared.layout.TheConstants.{ENTRY_HEAD, EMPTY_LOG}
 use Rattle.log_format.specs.declared.form.Form.TheVariants.{Two}
 use Rattle.gated_log.specs.Ledger.{has_room}
-use Rattle.keeper_channel.specs.Chan.{has_marker, unmarked, moved, at_moment_zero, channel_room}
-use Rattle.keeper_channel.proofs.Chans.{length-unmarked, moved_more}
+use Rattle.keeper_channel.specs.Chan.{has_marker, unmarked, moved, channel_room}
+use Rattle.keeper_channel.proofs.Chans.{length-unmarked, moved_append, moved_group}
 
 pub size-cons : (payload : List ℕ) (payloads : List (List ℕ)) → size_of (payload ∷ payloads) ≡ length payload + size_of payloads
 size-cons payload payloads = sum_by-cons (λ (p : List ℕ). length p) payload payloads
@@ -44,21 +43,16 @@ no_room front list some bytes entries more as_many as_long none =
     less (length front + some) (length list + entries) (EMPTY_LOG + ENTRY_HEAD * (length front + some) + size_of front + bytes) (EMPTY_LOG + ENTRY_HEAD * (length list + entries) + size_of list + more)
     (most_entries_of Two) (most_bytes_of Two) as_many (omega (arith, as_many, as_long)) none
 
-moved_append : (front back : List (List ℕ)) → moved (front ++ back) ≡ moved front ++ moved back
-moved_append [] back = refl
-moved_append (payload ∷ front) back = ap (λ (l : List (List ℕ)). at_moment_zero payload ∷ l) (moved_append front back)
-
--- where an entry of a list finds no room while it is moved, the list has none
-pub no_room_moving : (old : List (List ℕ)) (index : ℕ) (payload : List ℕ) → slice_get old index ≡ Some payload
-    → has_room Two (moved (take index old)) 1 (length (at_moment_zero payload)) ≡ false → channel_room (moved old) 0 0 ≡ false
-no_room_moving old index payload got none =
-    let front = moved (take index old) in let p = at_moment_zero payload in let back = moved (drop (index + 1) old) in
-    let split : moved old ≡ (front ++ p ∷ []) ++ back =
-    sym (ap moved (take-append-drop (index + 1) old)) ∙ moved_append (take (index + 1) old) (drop (index + 1) old) ∙ ap (λ (l : List (List ℕ)). l ++ back) (sym (moved_more old index payload got)) in
-    let long : length (moved old) ≡ (length front + 1) + length back = ap (λ (l : List (List ℕ)). length l) split ∙ length-append (front ++ p ∷ []) back ∙ ap (λ n. n + length back) (length-append front (p ∷ [])) in
-    let sized : size_of (moved old) ≡ (size_of front + (length p + size_of [])) + size_of back =
-    ap size_of split ∙ size-append (front ++ p ∷ []) back ∙ ap (λ n. n + size_of back) (size-append front (p ∷ []) ∙ ap (λ n. size_of front + n) (size-cons p [])) in
-    no_room front (moved old) 1 (length p) 1 0 (omega (arith, long)) (omega (arith, sized)) none
+-- where a group of entries of a list finds no room while they are moved, the list has none
+pub no_room_moving : (old : List (List ℕ)) (first many : ℕ)
+    → has_room Two (moved (take first old)) (length (moved (take many (drop first old)))) (size_of (moved (take many (drop first old)))) ≡ false → channel_room (moved old) 0 0 ≡ false
+no_room_moving old first many none =
+    let front = moved (take first old) in let group = moved (take many (drop first old)) in let back = moved (drop (first + many) old) in
+    let split : moved old ≡ (front ++ group) ++ back =
+    sym (ap moved (take-append-drop (first + many) old)) ∙ moved_append (take (first + many) old) (drop (first + many) old) ∙ ap (λ (l : List (List ℕ)). l ++ back) (sym (moved_group old first many)) in
+    let long : length (moved old) ≡ (length front + length group) + length back = ap (λ (l : List (List ℕ)). length l) split ∙ length-append (front ++ group) back ∙ ap (λ n. n + length back) (length-append front group) in
+    let sized : size_of (moved old) ≡ (size_of front + size_of group) + size_of back = ap size_of split ∙ size-append (front ++ group) back ∙ ap (λ n. n + size_of back) (size-append front group) in
+    no_room front (moved old) (length group) (size_of group) 1 0 (omega (arith, long)) (omega (arith, sized)) none
 
 -- nor for anything behind it
 pub no_room_more : (list : List (List ℕ)) (entries bytes : ℕ) → channel_room list 0 0 ≡ false → channel_room list entries bytes ≡ false

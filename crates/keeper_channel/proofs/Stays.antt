@@ -1,10 +1,10 @@
 -- What acts on other files leave of a channel.
-use Rattle.std.proofs.Common.{◌≡◌, ◌⊎◌, inl, ℕ, true, false, List, [], ◌∷◌, take, refl, sym, subst}
+use Rattle.std.proofs.Common.{◌≡◌, ◌⊎◌, inl, ℕ, true, false, List, take, sym, subst}
 use Rattle.disk_volume.specs.Disk.{Disk, IsImage, reads, file_at}
 use Rattle.disk_volume.specs.Moments.{moment, EachSince, EachNow, Grew, OnlySyncs, no_sync, one_sync}
 use Rattle.disk_volume.specs.Lemmas.Others.{others_leave}
 use Rattle.disk_volume.specs.Lemmas.Since.{elsewhere, each_then, since_now, now_alone}
-use Rattle.keeper_channel.specs.Chan.{has_marker, unmarked, moved, IsList, IsWithin, at_moment_zero}
+use Rattle.keeper_channel.specs.Chan.{has_marker, unmarked, moved, IsList, IsWithin}
 use Rattle.gated_log.specs.Ledger.{LeavesOut}
 use Rattle.keeper_channel.specs.Inside.Adding.{IsAdding, IsMoving}
 use Rattle.gated_log.specs.Ledger.{Within}
@@ -43,19 +43,19 @@ adding_still opens before after done doubt added same now =
     let P : Disk → Type 0 = λ disk. EachSince before disk (λ image. IsAdding (opens image) done doubt added) in
     subst P (sym same) (λ image left. inl (inl (now image (now_alone before image left))))
 
--- one entry more may have been moved
+-- a group more may have been moved
 pub moved_each : {O G : Type 0} {theirs : List ℕ → Type 0} (opens_one opens_two : (List ℕ → List ℕ) → List (List ℕ) → Type 0) (doubt : (List ℕ → List ℕ) → List (List ℕ))
     (holds_one : O → List (List ℕ) → Disk → Type 0) (holds_two : G → List (List ℕ) → Disk → Type 0) (mine : List ℕ → Type 0)
-    (one : O) (log : G) (old : List (List ℕ)) (index : ℕ) (start mid new : Disk) (payload : List ℕ)
+    (one : O) (log : G) (old : List (List ℕ)) (index : ℕ) (start mid new : Disk) (group : List (List ℕ))
     → (so_far : IsMoving opens_one opens_two doubt holds_one holds_two theirs one log old index start mid)
     → IsImage mid (reads mid) → Grew theirs mid new → ((file : List ℕ) → theirs file → mine file → ⊥)
     → ((one other : List ℕ → List ℕ) → ((file : List ℕ) → mine file → one file ≡ other file) → opens_one one old → opens_one other old)
     → EachNow mid (λ image. opens_one image old)
-    → EachSince mid new (λ image. IsAdding (opens_two image) (moved (take index old)) (doubt (reads mid)) (at_moment_zero payload ∷ []))
+    → has_marker group ≡ false → EachSince mid new (λ image. IsAdding (opens_two image) (moved (take index old)) (doubt (reads mid)) group)
     → EachSince start new (λ image. IsList opens_one opens_two image (moved old))
-moved_each opens_one opens_two doubt holds_one holds_two mine one log old index start mid new payload so_far read grew apart by now each =
+moved_each opens_one opens_two doubt holds_one holds_two mine one log old index start mid new group so_far read grew apart by now none each =
     each_then start mid new (λ image. IsList opens_one opens_two image (moved old)) grew so_far.each
-    (λ image left. adding_unmoved opens_one opens_two image (moved (take index old)) (doubt (reads mid)) old (at_moment_zero payload) (moved_unmarked (take index old)) so_far.sure refl
+    (λ image left. adding_unmoved opens_one opens_two image (moved (take index old)) (doubt (reads mid)) old group (moved_unmarked (take index old)) so_far.sure none
     (opens_since (λ files. opens_one files old) mine mid new read grew apart by now image left) (each image left))
 
 -- two loads, one after the other

@@ -1,4 +1,4 @@
-ghost use Rattle.std.specs.Prelude.{◌≡◌, ◌+◌, ◌<◌, ◌≤◌, ◌++◌, [], ◌∷◌, false, List, ℕ, length, Some, slice_get, IfOk, OnOk, IsTrue, MatchResult, ◌↔◌, IsErrOf, ◌⊎◌};
+ghost use Rattle.std.specs.Prelude.{◌≡◌, ◌+◌, ◌<◌, ◌≤◌, ◌++◌, [], ◌∷◌, false, List, ℕ, IfOk, OnOk, IsTrue, IsErrOf, ◌⊎◌};
 ghost use Rattle.pad_edge.specs.Count.{Rose};
 ghost use Rattle.disk_volume.specs.Disk.{reads};
 ghost use Rattle.disk_volume.specs.Moments.{EachSince, Grew};
@@ -7,11 +7,11 @@ ghost use Rattle.keeper_channel.specs.Entries.{AreEntries};
 ghost use Rattle.keeper_channel.specs.Chan.{has_marker, moved, channel_room, IsList};
 ghost use Rattle.keeper_channel.specs.Inside.Adding.{IsMoving};
 
-use crate::moving::{add_reserved, move_entry};
+use crate::moving::{add_reserved, move_group};
 use crate::refused::KeeperRefused;
 use disk_volume::Volume;
 use gated_log::{Ledger, LoadRefused};
-use log_format::{Form, Frame};
+use log_format::{Form, Frames, MOST_FRAMES, Payload, Payloads};
 use std::alloc::{AllocError, Global};
 
 /// Makes the log of form Two one without entries, where it has no marker.
@@ -45,7 +45,7 @@ fn restart_channel<O: Ledger, G: Ledger, V: Volume>(
     }
 }
 
-/// Moves the entries.
+/// Moves the entries, 64 at a time.
 fn move_entries<O: Ledger, G: Ledger, V: Volume>(
     alloc: Global,
     volume: &mut V,
@@ -75,8 +75,12 @@ fn move_entries<O: Ledger, G: Ledger, V: Volume>(
     ensures kept { IsErrOf result KeeperRefused.Store ⊎ (V.faults volume.new ≡ V.faults volume.old) }
     ensures later { V.faults volume.old ≤ V.faults volume.new }
 {
-    for index in 0..one.count() {
-        move_entry(alloc, volume, one, log, index)?;
+    let count = one.count();
+    let mut first = 0;
+    while first < count {
+        let many = (count - first).min(MOST_FRAMES as u64);
+        move_group(alloc, volume, one, log, first, many)?;
+        first += many;
     }
     Ok(())
 }
@@ -111,11 +115,19 @@ fn mark<O: Ledger, G: Ledger, V: Volume>(
     ensures kept { IsErrOf result KeeperRefused.Store ⊎ (V.faults volume.new ≡ V.faults volume.old) }
     ensures later { V.faults volume.old ≤ V.faults volume.new }
 {
-    let frame = match Frame::build(alloc, &[]) {
-        Ok(frame) => frame,
-        Err(_) => return Err(KeeperRefused::NoMemory(AllocError)),
-    };
-    add_reserved(alloc, volume, log, &frame)
+    match marker_group(alloc) {
+        Ok(group) => add_reserved(alloc, volume, log, &group),
+        Err(error) => Err(KeeperRefused::NoMemory(error)),
+    }
+}
+
+/// The marker, as a group of one.
+fn marker_group(alloc: Global) -> Result<Frames, AllocError>
+    ensures { IfOk result (λ group. group ≡ [] ∷ []) }
+{
+    let mut payloads = Vec::new(alloc);
+    payloads.push(Payload::new(Vec::new(alloc)))?;
+    Frames::build(alloc, &Payloads::new(payloads))
 }
 
 /// Moves a channel that has no marker.

@@ -8,14 +8,13 @@ ghost use Rattle.keeper_channel.specs.Logs.{IsLive, IsLogsOf, HasCount};
 ghost use Rattle.keeper_channel.specs.Slot.{IsSlot, IsSlotOf};
 
 use crate::logs::Logs;
-use crate::moving::move_payload;
 use crate::refused::KeeperRefused;
 use crate::slot::Slot;
 use disk_volume::Volume;
 use gated_log::{Damage, Ledger, PayloadRefused};
-use keeper_entry::content_of;
+use keeper_entry::{MOMENT_BYTES, content_of};
 use log_format::Payload;
-use std::alloc::Global;
+use std::alloc::{AllocError, Global};
 
 /// Reads the payload of an entry of a loaded channel by its index, in two calls of the volume at most, and looks at it again. Where
 /// the channel was not moved yet, the payload has the moment 0. `Damaged` comes exactly if what was read is no entry, and never over
@@ -96,6 +95,45 @@ pub fn read_payload<O: Ledger, G: Ledger, V: Volume>(
     match logs {
         Logs::Unmoved { one, two: _ } => read_unmoved(alloc, volume, one, index),
         Logs::Moved { log, marker } => log.read(alloc, volume, place_of(*marker, index)),
+    }
+}
+
+/// A payload of form One as it is moved to form Two: with the moment 0 in front.
+fn move_payload(alloc: Global, payload: &[u8]) -> Result<Payload, AllocError>
+    ensures { IfOk result (λ moved. moved ≡ at_moment_zero payload.now) }
+{
+    let mut moved = Vec::with_capacity(alloc, payload.len() + MOMENT_BYTES)?;
+    moved.extend_from_slice(&[0; MOMENT_BYTES])?;
+    moved.extend_from_slice(payload)?;
+    Ok(Payload::new(moved))
+}
+
+/// Reads an entry of a log of form One as it is moved, and looks at it. `Damaged` comes exactly if it is no entry.
+pub fn read_moved<O: Ledger, V: Volume>(
+    alloc: Global,
+    volume: &mut V,
+    one: &O,
+    index: u64,
+) -> Result<Payload, KeeperRefused>
+    requires live { IsTrue (O.live one.now) }
+    requires index { index < O.count one.now }
+    requires holds { V.tells → (payloads : List (List ℕ)) × O.holds one.now payloads (V.disk volume.old) }
+    ensures payload { V.tells → (payloads : List (List ℕ)) → O.holds one.now payloads (V.disk volume.old)
+        → IfOk result (λ moved. (payload : List ℕ) × (slice_get payloads index ≡ Some payload) × (moved ≡ at_moment_zero payload)) }
+    ensures entry { IfOk result IsEntry }
+    ensures damaged { V.tells → (payloads : List (List ℕ)) → O.holds one.now payloads (V.disk volume.old) → (damage : Damage) → IsErrOf result (KeeperRefused.Damaged damage)
+        → (payload : List ℕ) × (slice_get payloads index ≡ Some payload) × (IsEntry (at_moment_zero payload) → ⊥) }
+    ensures full { IsErrOf result KeeperRefused.Full → ⊥ }
+    ensures disk { V.tells → V.disk volume.new ≡ V.disk volume.old }
+    ensures follows { V.follows volume.old volume.new }
+    ensures store { IsErrOf result KeeperRefused.Store → Rose (V.faults volume.old) (V.faults volume.new) }
+    ensures kept { IsErrOf result KeeperRefused.Store ⊎ (V.faults volume.new ≡ V.faults volume.old) }
+    ensures later { V.faults volume.old ≤ V.faults volume.new }
+{
+    match read_unmoved(alloc, volume, one, index) {
+        Ok(payload) => check_entry(index, payload),
+        Err(PayloadRefused::Store) => Err(KeeperRefused::Store),
+        Err(PayloadRefused::NoMemory(error)) => Err(KeeperRefused::NoMemory(error)),
     }
 }
 

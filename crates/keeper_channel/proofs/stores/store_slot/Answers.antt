@@ -1,6 +1,6 @@
 use Rattle.disk_volume.specs.Lemmas.Since.{grew_within}
 use Rattle.disk_volume.specs.Moments.{no_sync}
-use Rattle.std.proofs.Common.{inr, IsSome}
+use Rattle.std.proofs.Common.{inr}
 use Rattle.keeper_channel.proofs.stores.store_slot.Goals as goal
 
 pub returns-in-Some-clause-stored : goal.returns-in-Some-clause-stored
