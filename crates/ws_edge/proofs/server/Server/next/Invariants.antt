@@ -1,0 +1,6 @@
+-- Numbers rise.
+use Rattle.std.proofs.Common.{◌≤◌}
+use Rattle.ws_edge.proofs.server.Server.next.Given as goal
+
+abbrev pub invariant-loop : goal.invariant-loop
+invariant-loop l = l.initial.self ≤ l.self

@@ -1,0 +1,3 @@
+pub mod Address
+pub mod WsLink
+pub mod WsPort
