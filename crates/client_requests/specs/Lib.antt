@@ -1,0 +1,4 @@
+pub mod State
+pub mod Refusal
+pub mod Calls
+pub mod Hear
