@@ -39,8 +39,9 @@ IsChosenNext false base received message choice next = IsNextChoice base receive
 abbrev pub IsKeptMessage : Base → List Message → List Message → Message → Type 0
 IsKeptMessage base received root message = (path : List Message) × IsLinkedPath base received (message ∷ path) × RunsThrough root (message ∷ path)
 
--- The graph stands for the links of the messages and the root; the messages that are kept or wait are held, and no others; the
--- branch is the chosen path above the root, with its text; marks and names found are those of messages in which no path ends.
+-- The graph stands for the links of the messages and the root; the messages that are kept above the root or wait are held, and
+-- no others but the root's; the branch is the chosen path above the root, with its text; marks and names found are those of
+-- messages in which no path ends.
 pub record StandsFor (chain : View) (base : Base) (received : List Message) (choice : Choice) : Type 0 where
   pub chosen : IsChosen chain.whole base received choice
   pub links : List Link

@@ -28,4 +28,6 @@ pub use pad_branch::Move;
 pub use receive_refused::ReceiveRefused;
 
 #[cfg(test)]
+mod checkpoint_tests;
+#[cfg(test)]
 mod tests;
