@@ -1,7 +1,7 @@
 #!/usr/bin/env python3
 """Compares `padnet replay` with the second program of tests/oracle.py, on pads that are made at random.
 
-usage: tests/compare.py [--seed N] [--count N] [--no-checkpoints] [--program PATH]
+usage: tests/compare.py [--seed N] [--count N] [--heights N,N,..] [--no-checkpoints] [--program PATH]
 
 Each pad is a list of lines: patches of many operations that insert and remove, on characters that are one unit or two;
 patches that do not fit, for each reason; checkpoints at their distance and off it; forks, branches that pass the kept
@@ -367,17 +367,19 @@ def main():
     words = argparse.ArgumentParser(description="Compares `padnet replay` with a second program, on pads that are made at random.")
     words.add_argument("--seed", type=int, default=1)
     words.add_argument("--count", type=int, default=40, help="the number of pads")
+    words.add_argument("--heights", default="2,30,60,100,100,140,140", help="how high a best chain gets: one of these for each pad")
     words.add_argument("--no-checkpoints", action="store_true", help="makes patches alone")
     words.add_argument("--program", help="what is run, and not built, in place of ./padnet")
     words = words.parse_args()
     oracle.self_test()
     program = words.program or built()
+    heights = [int(height) for height in words.heights.split(",")]
     cases, total = Counter(), 0
     for number in range(words.count + 1):
         rng = random.Random(f"{words.seed} {number}")
         if number:
             pad = Pad(rng, not words.no_checkpoints)
-            pad.fill(rng.choice([2, 30, 60, 100, 100, 140, 140]))
+            pad.fill(rng.choice(heights))
             lines = pad.lines()
         else:
             lines = limits(not words.no_checkpoints)

@@ -1,100 +1,139 @@
--- The names of the messages received, message by message.
-use Rattle.std.proofs.Common.{◌≡◌, ◌≢◌, ℕ, ◌≤◌, ◌⊎◌, inl, inr, Bool, true, false, true≢false, nat_eq, Option, None, Some, not, is_some, List, [], ◌∷◌, ◌++◌, length, Contains, sym, ap, subst, ◌∙◌, arith}
-use Rattle.std.specs.Cmp.Lexicographic.{pointwise, bytes_decides}
-use Rattle.std.proofs.lemmas.Option.{get_or_from_slice_get, slice_get_within}
-use Rattle.std.proofs.lemmas.List.Elements.{All-push, Contains-push_cases}
+-- What a chain of the messages received tells, and how it goes on.
+use Rattle.std.proofs.Common.{◌≡◌, ◌↔◌, ℕ, ◌+◌, ◌≤◌, List, [], ◌∷◌, ◌++◌, reverse, false, None, Some, refl, sym, ap, ◌∙◌, subst, arith}
+use Rattle.std.proofs.lemmas.List.{reverse-append}
+use Rattle.std.proofs.lemmas.List.Elements.{Contains-append_left}
 use Rattle.pad_text.specs.declared.name.Name.{Name}
 use Rattle.pad_message.specs.declared.message.Message.{Message}
-use Rattle.pad_message.specs.Message.{name_of}
+use Rattle.pad_list.specs.Number.{IsNumberOf}
+use Rattle.pad_list.proofs.CallerLemmas.{number_same, distinct_short}
 use Rattle.pad_model.specs.declared.base.Base.{Base}
-use Rattle.pad_model.specs.Path.{NamesDiffer}
-use Rattle.pad_model.specs.Report.{IsReport}
 use Rattle.pad_model.specs.Base.{first_base}
-use Rattle.pad_list.specs.Number.{NoRepeat, IsNumberOf}
-use Rattle.pad_model.specs.Count.{IsKnown}
-use Rattle.pad_plain.specs.Messages.{IsPlaceOf}
-use Rattle.pad_list.proofs.CallerLemmas.{contains_head, contains_more, contains_none, distinct_short}
-use Rattle.pad_top.specs.Received.{most_names, HasFewNames, IsOneTooMany}
-use Rattle.pad_top.specs.Inside.Progress.{Progress, IsInside, IsFull, HasRoom, TestsRoom}
+use Rattle.pad_model.specs.Path.{text, NamesDiffer}
+use Rattle.pad_model.specs.Choice.{Choice, IsChoice, first_choice}
+use Rattle.pad_model.specs.Count.{IsKnown, IsWaiting, IsKept}
+use Rattle.pad_model.specs.Report.{report_lines, IsReport}
+use Rattle.pad_model.specs.Laws.{SameMembers}
+use Rattle.pad_model.proofs.CallerLemmas.{same_reversed, differ_same, counts_same}
+use Rattle.pad_checkpoint.specs.declared.place.Place.{Place}
+use Rattle.pad_checkpoint.specs.Place.{place_of}
+use Rattle.pad_report.specs.declared.report.Report.{Report}
+use Rattle.pad_report.specs.Report.{values}
+use Rattle.pad_chain.specs.declared.moved.Moved.{Moved}
+use Rattle.pad_chain.specs.declared.receive_refused.ReceiveRefused.{ReceiveRefused}
+use Rattle.pad_chain.specs.declared.receive_refused.ReceiveRefused.TheVariants.{Full, NoMemory}
+use Rattle.pad_chain.specs.State.{View}
+use Rattle.pad_chain.specs.Tie.{IsChosen, StandsFor}
+use Rattle.pad_chain.specs.Knows.{Knows, IsFull}
+use Rattle.pad_chain.specs.Receive.{IsReceived}
+use Rattle.pad_top.specs.Received.{most_names, HasFewNames}
+use Rattle.pad_top.specs.Inside.Progress.{Progress, IsAt, progress_after}
+use Rattle.pad_top.specs.Inside.Refusal.{refusal_of, IsMessageRefusal}
 
--- the report of what was received is one from the first base on
-pub report_from_first : (base : Base) (messages : List Message) (unreadable : ℕ) (progress : Progress) (text : List ℕ) → base ≡ first_base → record { messages = messages; unreadable = unreadable } ≡ progress
-    → (NamesDiffer messages → IsReport base messages unreadable text) → NamesDiffer progress.messages → IsReport first_base progress.messages progress.unreadable text
-report_from_first base messages unreadable progress text first same report differ =
-    subst (λ b. IsReport b progress.messages progress.unreadable text) first
-    (subst (λ (p : Progress). NamesDiffer p.messages → IsReport base p.messages p.unreadable text) same report differ)
+-- ---- the same messages, the newest first
 
--- no messages have few names
-pub HasFewNames-nil : HasFewNames []
-HasFewNames-nil [] once known = omega arith
-HasFewNames-nil (name ∷ names) once known = let has = known name (contains_head name names) in absurd (contains_none has.0 has.1)
+-- one message more stands in front
+turned : (messages : List Message) (message : Message) → reverse (messages ++ message ∷ []) ≡ message ∷ reverse messages
+turned messages message = reverse-append messages (message ∷ [])
 
--- the first base, and no messages
-pub IsInside-nil : (base : Base) (messages : List Message) → base ≡ first_base → messages ≡ [] → IsInside base messages
-IsInside-nil base messages first none = record { first = first; names = subst HasFewNames (sym none) HasFewNames-nil }
+back : (messages : List Message) → SameMembers (reverse messages) messages
+back messages message = ((same_reversed messages message).1, (same_reversed messages message).0)
 
--- a name that one more message makes known is its name, or was known before
-known_cases : (messages : List Message) (message : Message) (name : Name) → IsKnown first_base (messages ++ message ∷ []) name
-    → ((name_of message ≡ name) × (name ≢ first_base.name)) ⊎ IsKnown first_base messages name
-known_cases messages message name known = go (Contains-push_cases messages message known.0 known.1)
+differ_front : (messages : List Message) (message : Message) → NamesDiffer (messages ++ message ∷ []) → NamesDiffer messages
+differ_front messages message differ one other has has_other =
+    differ one other (Contains-append_left messages (message ∷ []) one has) (Contains-append_left messages (message ∷ []) other has_other)
+
+differ_turned : (messages : List Message) (message : Message) → NamesDiffer (messages ++ message ∷ []) → NamesDiffer (message ∷ reverse messages)
+differ_turned messages message differ =
+    subst NamesDiffer (turned messages message) (differ_same (messages ++ message ∷ []) (reverse (messages ++ message ∷ [])) (same_reversed (messages ++ message ∷ [])) differ)
+
+known_turned : (messages : List Message) (name : Name) → IsKnown first_base (reverse messages) name ↔ IsKnown first_base messages name
+known_turned messages name = (
+  λ known. (known.0, (same_reversed messages known.0).1 known.1, known.2, known.3),
+  λ known. (known.0, (same_reversed messages known.0).0 known.1, known.2, known.3),
+)
+
+-- ---- how the chain goes on
+
+-- a new chain is that of no messages
+pub at_first : (chain : View) → StandsFor chain first_base [] first_choice × (chain.whole ≡ false) → Knows chain first_base [] → IsAt chain 0 (record { messages = []; unreadable = 0 })
+at_first chain (stands, truncates) knows = record { truncates = truncates; knows = knows; stands = λ _. (first_choice, stands); others = refl }
+
+-- a line that reads as no message leaves the chain
+pub at_other : (chain : View) (unreadable : ℕ) (progress : Progress) → IsAt chain unreadable progress → IsAt chain (unreadable + 1) (progress_after None progress)
+at_other chain unreadable progress at = record { truncates = at.truncates; knows = at.knows; stands = at.stands; others = ap (λ n. n + 1) at.others }
+
+-- a message was received
+pub at_more : (old new : View) (unreadable : ℕ) (message : Message) (moved : Moved) → new.whole ≡ old.whole
+    → ((base : Base) (received : List Message) → Knows old base received → Knows new base (message ∷ received))
+    → ((base : Base) (received : List Message) (choice : Choice) → NamesDiffer (message ∷ received) → StandsFor old base received choice → IsReceived old new base received message choice moved)
+    → (progress : Progress) → IsAt old unreadable progress → IsAt new unreadable (progress_after (Some message) progress)
+at_more old new unreadable message moved whole knows stands progress at = record {
+  truncates = whole ∙ at.truncates;
+  knows = subst (Knows new first_base) (sym (turned progress.messages message)) (knows first_base (reverse progress.messages) at.knows);
+  stands = λ differ. goes_on differ (at.stands (differ_front progress.messages message differ));
+  others = at.others;
+}
   where
-    go : Contains messages known.0 ⊎ (message ≡ known.0) → ((name_of message ≡ name) × (name ≢ first_base.name)) ⊎ IsKnown first_base messages name
-    go (inl old) = inr (known.0, old, known.2, known.3)
-    go (inr here) = inl (ap name_of here ∙ known.2, known.3)
+    goes_on : NamesDiffer (progress.messages ++ message ∷ []) → ((choice : Choice) × StandsFor old first_base (reverse progress.messages) choice)
+        → (choice : Choice) × StandsFor new first_base (reverse (progress.messages ++ message ∷ [])) choice
+    goes_on differ (choice, stood) =
+        let is = stands first_base (reverse progress.messages) choice (differ_turned progress.messages message differ) stood in
+        (is.next, subst (λ received. StandsFor new first_base received is.next) (sym (turned progress.messages message)) is.stands)
 
--- what a look-up of a name tells, where there are as many names as there may be
-pub room_by_place : (base : Base) (messages : List Message) (name : Name) (number : ℕ) (same : Bool) (found : Option ℕ) (too_many : Bool) → IsNumberOf (IsKnown base messages) number
-    → number ≡ most_names → same ≡ pointwise nat_eq name.0 base.name.0 → same ≡ false → IsPlaceOf messages name found → is_some found ≡ not too_many → TestsRoom base messages name too_many
-room_by_place base messages name number same None true known most test told place e = record {
-  full = subst (IsNumberOf (IsKnown base messages)) most known;
-  not_base = λ is. let both : true ≡ false = sym ((bytes_decides name.0 base.name.0).1 (ap (λ n. n.0) is)) ∙ sym test ∙ told in true≢false both;
-  new = place;
-}
-room_by_place base messages name number same None false known most test told place e = absurd (true≢false (sym e))
-room_by_place base messages name number same (Some index) true known most test told place e = absurd (true≢false e)
-room_by_place base messages name number same (Some index) false known most test told (message, at, named, first) e = record {
-  number = number;
-  known = known;
-  room = inr (inr (message, (index, slice_get_within messages index message at, get_or_from_slice_get messages index message message at), named));
-}
+-- ---- how many names are known
 
--- there are few names after one more message for which there is room
-few_more : (messages : List Message) (message : Message) → HasFewNames messages → HasRoom first_base messages (name_of message) → HasFewNames (messages ++ message ∷ [])
-few_more messages message few room names once known = go room.room
+pub few_names : (messages : List Message) (number : ℕ) → IsNumberOf (IsKnown first_base (reverse messages)) number → number ≤ most_names → HasFewNames messages
+few_names messages number is most names once known =
+    omega (arith, distinct_short names is.all once (λ name has. (is.these name).1 ((known_turned messages name).1 (known name has))), is.many, most)
+
+-- what a chain refuses as full is one name too many
+pub message_refusal : (chain : View) (unreadable : ℕ) (message : Message) (error : ReceiveRefused)
+    → (error ≡ Full → (base : Base) (received : List Message) → Knows chain base received → IsFull base received message)
+    → (progress : Progress) → IsAt chain unreadable progress → IsMessageRefusal message progress.messages (refusal_of error)
+message_refusal chain unreadable message Full why progress at = (
+  few_names progress.messages most_names is.full (omega arith),
+  record {
+    full = number_same (IsKnown first_base (reverse progress.messages)) (IsKnown first_base progress.messages) most_names (known_turned progress.messages) is.full;
+    not_base = is.not_base;
+    new = λ known has same. is.new (known, (same_reversed progress.messages known).0 has, same, is.not_base);
+  },
+)
   where
-    -- what is known where the name is no new one
-    old : ((name : Name) → name_of message ≡ name → name ≢ first_base.name → IsKnown first_base messages name) → (name : Name) → Contains names name → IsKnown first_base messages name
-    old no_new name has = either (known_cases messages message name (known name has))
-      where
-        either : ((name_of message ≡ name) × (name ≢ first_base.name)) ⊎ IsKnown first_base messages name → IsKnown first_base messages name
-        either (inl here) = no_new name here.0 here.1
-        either (inr before) = before
+    is : IsFull first_base (reverse progress.messages) message
+    is = why refl first_base (reverse progress.messages) at.knows
+message_refusal chain unreadable message (NoMemory error) why progress at = tt
 
-    one_more : (name : Name) → Contains names name → Contains (name_of message ∷ room.known.all) name
-    one_more name has = either (known_cases messages message name (known name has))
-      where
-        either : ((name_of message ≡ name) × (name ≢ first_base.name)) ⊎ IsKnown first_base messages name → Contains (name_of message ∷ room.known.all) name
-        either (inl here) = subst (Contains (name_of message ∷ room.known.all)) here.0 (contains_head (name_of message) room.known.all)
-        either (inr before) = contains_more (name_of message) room.known.all name ((room.known.these name).1 before)
+-- ---- the report
 
-    go : (room.number ≢ most_names) ⊎ ((name_of message ≡ first_base.name) ⊎ ((other : Message) × Contains messages other × (name_of other ≡ name_of message))) → length names ≤ most_names
-    go (inl below) =
-        let before = few room.known.all room.known.once (λ name has. (room.known.these name).0 has) in
-        let after = distinct_short names (name_of message ∷ room.known.all) once one_more in
-        omega (arith, before, after, below, room.known.many)
-    go (inr (inl base)) = few names once (old (λ name here not_base. absurd (not_base (sym here ∙ base))))
-    go (inr (inr (other, has, same))) = few names once (old (λ name here not_base. (other, has, same ∙ here, not_base)))
+-- the choice of a chain that truncates
+pub chosen_of : (chain : View) (received : List Message) (choice : Choice) → chain.whole ≡ false → StandsFor chain first_base received choice → IsChoice first_base received choice
+chosen_of chain received choice truncates stands = subst (λ whole. IsChosen whole first_base received choice) truncates stands.chosen
 
-pub IsInside-more : (base : Base) (messages : List Message) (message : Message) (name : Name) → IsInside base messages → name ≡ name_of message → HasRoom base messages name
-    → IsInside base (messages ++ message ∷ [])
-IsInside-more base messages message name inside is room = record {
-  first = inside.first;
-  names = few_more messages message inside.names (subst (λ b. HasRoom b messages (name_of message)) inside.first (subst (HasRoom base messages) is room));
+-- the lines of what a chain tells are the report
+pub reported : (messages : List Message) (unreadable : ℕ) (choice : Choice) (report : Report) (best root : Place) (units bytes : List ℕ) → IsChoice first_base (reverse messages) choice
+    → best ≡ place_of first_base choice.chosen → root ≡ place_of first_base choice.root → units ≡ text first_base choice.chosen → report.overtaken ≡ choice.overtaken
+    → IsNumberOf (IsKnown first_base (reverse messages)) report.known → IsNumberOf (IsWaiting first_base (reverse messages)) report.waiting
+    → ((above : ℕ) × IsNumberOf (IsKept first_base (reverse messages) choice.root) above × (report.kept ≡ above + 1))
+    → report ≡ record report { best = best.name; height = best.height; unreadable = unreadable; root = root.name; root_height = root.height }
+    → bytes ≡ report_lines (values report units) → IsReport first_base messages unreadable bytes
+reported messages unreadable choice report best root units bytes is_choice at_best at_root after overtook known waiting kept told is = record {
+  choice = choice;
+  is_choice = is_choice;
+  known = report.known;
+  waiting = report.waiting;
+  kept = report.kept;
+  counts = counts_same first_base (reverse messages) messages (back messages) choice.root report.known report.waiting report.kept
+      (record { known_names = known; waiting_messages = waiting; above_root = kept.0; kept_messages = kept.1; with_root = kept.2 });
+  lines = is ∙ ap (λ (r : Report). report_lines (values r units)) told ∙ (λ i. report_lines (record {
+    best = (at_best i).name;
+    height = (at_best i).height;
+    units = after i;
+    known = report.known;
+    waiting = report.waiting;
+    unreadable = unreadable;
+    root = (at_root i).name;
+    root_height = (at_root i).height;
+    kept = report.kept;
+    overtaken = overtook i;
+  }));
 }
-
--- a message for which there is no room
-pub one_too_many : (base : Base) (messages : List Message) (message : Message) (name : Name) → IsInside base messages → name ≡ name_of message → IsFull base messages name
-    → HasFewNames messages × IsOneTooMany messages message
-one_too_many base messages message name inside is full =
-    let told = subst (λ b. IsFull b messages (name_of message)) inside.first (subst (IsFull base messages) is full) in
-    (inside.names, record { full = told.full; not_base = told.not_base; new = told.new })

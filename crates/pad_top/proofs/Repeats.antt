@@ -1,19 +1,15 @@
 -- A line that reads as a message of a line before it changes nothing.
-use Rattle.std.proofs.Common.{◌≡◌, ◌↔◌, ℕ, ◌+◌, ◌≤◌, ◌⊎◌, inl, inr, List, [], ◌∷◌, ◌++◌, length, Option, None, Some, is_none, count_by, cond, Contains, refl, sym, ap, subst, ◌∙◌, arith}
+use Rattle.std.proofs.Common.{◌≡◌, ℕ, ◌+◌, ◌⊎◌, inl, inr, List, [], ◌∷◌, ◌++◌, Option, Some, is_none, count_by, cond, Contains, refl, sym, ap, subst, ◌∙◌}
 use Rattle.std.proofs.lemmas.List.Elements.{Contains-append_left, Contains-append_right, Contains-append_cases}
 use Rattle.std.proofs.lemmas.List.Sums.{sum_by-append}
 use Rattle.std.specs.List.{AllZip}
-use Rattle.pad_text.specs.declared.name.Name.{Name}
 use Rattle.pad_message.specs.declared.message.Message.{Message}
-use Rattle.pad_message.specs.Message.{name_of}
 use Rattle.pad_model.specs.Base.{first_base}
 use Rattle.pad_model.specs.Path.{NamesDiffer}
 use Rattle.pad_model.specs.Report.{IsReport}
-use Rattle.pad_list.proofs.CallerLemmas.{contains_head, contains_more, contains_cases}
+use Rattle.pad_list.proofs.CallerLemmas.{contains_more, contains_cases}
 use Rattle.pad_model.proofs.CallerLemmas.{repeat_changes_no_report}
-use Rattle.pad_top.specs.Input.{most_bytes}
-use Rattle.pad_lines.specs.Line.{lines_of}
-use Rattle.pad_top.specs.Received.{LineSpells, ReadsAs, IsReceived, HasFewNames, IsTaken}
+use Rattle.pad_top.specs.Received.{ReadsAs, IsReceived, HasFewNames}
 use Rattle.pad_top.specs.Replay.{IsReplayed}
 use Rattle.pad_top.specs.Laws.{RepeatsChangeNothing}
 use Rattle.pad_top.proofs.Once.{one_list, one_outcome, read_of, read-append}

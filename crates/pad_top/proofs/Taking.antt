@@ -7,7 +7,9 @@ use Rattle.pad_top.specs.declared.refused.ReplayRefused.{ReplayRefused}
 use Rattle.pad_top.specs.declared.refused.ReplayRefused.TheVariants as refused
 use Rattle.pad_lines.specs.Line.{lines_of}
 use Rattle.pad_top.specs.Received.{LineSpells, ReadsAs, IsReceived, HasFewNames, Reaches}
-use Rattle.pad_top.specs.Inside.Progress.{Progress, Receives, progress_after, IsMessageRefusal, IsLineRefusal, IsLinesRefusal}
+use Rattle.pad_chain.specs.State.{View}
+use Rattle.pad_top.specs.Inside.Progress.{Progress, IsAt, IsWholeAt, progress_after}
+use Rattle.pad_top.specs.Inside.Refusal.{IsMessageRefusal, IsLineRefusal, IsLinesRefusal}
 
 -- the lines of a text before the rest of it are received
 pub record IsSoFar (text rest : List ℕ) (progress : Progress) : Type 0 where
@@ -59,13 +61,13 @@ IsReceived-push lines line old (Some message) received reads = record {
   others = received.others ∙ omega (arith, none-push received.outcomes (Some message));
 }
 
-pub IsSoFar-more : (text rest line after : List ℕ) (old new : Progress) → IsSoFar text rest old → lines_of rest ≡ line ∷ lines_of after → length after < length rest
-    → Receives line old new → IsSoFar text after new
-IsSoFar-more text rest line after old new so_far split shorter (outcome, reads, is) = record {
+pub IsSoFar-more : (text rest line after : List ℕ) (old : Progress) (outcome : Option Message) → IsSoFar text rest old → lines_of rest ≡ line ∷ lines_of after → length after < length rest
+    → ReadsAs line outcome → IsSoFar text after (progress_after outcome old)
+IsSoFar-more text rest line after old outcome so_far split shorter reads = record {
   before = so_far.before ++ line ∷ [];
   parts = so_far.parts ∙ ap (λ lines. so_far.before ++ lines) split ∙ sym (append_assoc so_far.before (line ∷ []) (lines_of after));
-  received = subst (λ progress. IsReceived (so_far.before ++ line ∷ []) progress.messages progress.unreadable) (sym is) (IsReceived-push so_far.before line old outcome so_far.received reads);
-  room = omega (arith, ap (λ progress. progress.unreadable) is, one_more outcome, so_far.room, shorter);
+  received = IsReceived-push so_far.before line old outcome so_far.received reads;
+  room = omega (arith, one_more outcome, so_far.room, shorter);
 }
   where
     one_more : (outcome : Option Message) → (progress_after outcome old).unreadable ≤ old.unreadable + 1
@@ -76,6 +78,32 @@ IsSoFar-more text rest line after old new so_far split shorter (outcome, reads, 
 pub IsReceived-end : (text rest : List ℕ) (progress : Progress) → IsSoFar text rest progress → lines_of rest ≡ [] → IsReceived (lines_of text) progress.messages progress.unreadable
 IsReceived-end text rest progress so_far none =
     subst (λ lines. IsReceived lines progress.messages progress.unreadable) (sym (so_far.parts ∙ ap (λ lines. so_far.before ++ lines) none ∙ append-nil so_far.before)) so_far.received
+
+-- ---- the chain that received them
+
+-- the chain received what the lines before the rest of a text read as
+pub record IsHere (text rest : List ℕ) (chain : View) (unreadable : ℕ) : Type 0 where
+  pub progress : Progress
+  pub so_far : IsSoFar text rest progress
+  pub at : IsAt chain unreadable progress
+
+pub here_first : (text : List ℕ) (chain : View) (unreadable : ℕ) → IsAt chain unreadable (record { messages = []; unreadable = 0 }) → IsHere text text chain unreadable
+here_first text chain unreadable at = record { progress = record { messages = []; unreadable = 0 }; so_far = IsSoFar-start text; at = at }
+
+pub here_more : (text rest line after : List ℕ) (old new : View) (before number : ℕ) → IsHere text rest old before → lines_of rest ≡ line ∷ lines_of after → length after < length rest
+    → ((outcome : Option Message) × ReadsAs line outcome × ((progress : Progress) → IsAt old before progress → IsAt new number (progress_after outcome progress))) → IsHere text after new number
+here_more text rest line after old new before number here split shorter (outcome, reads, goes_on) = record {
+  progress = progress_after outcome here.progress;
+  so_far = IsSoFar-more text rest line after here.progress outcome here.so_far split shorter reads;
+  at = goes_on here.progress here.at;
+}
+
+-- fewer lines were unreadable than the text has bytes, where a rest is left
+pub here_few : (text rest : List ℕ) (chain : View) (unreadable : ℕ) → IsHere text rest chain unreadable → unreadable + length rest ≤ length text
+here_few text rest chain unreadable here = omega (arith, here.so_far.room, here.at.others)
+
+pub here_end : (text rest : List ℕ) (chain : View) (unreadable : ℕ) → IsHere text rest chain unreadable → lines_of rest ≡ [] → IsWholeAt text chain unreadable
+here_end text rest chain unreadable here none = (here.progress, IsReceived-end text rest here.progress here.so_far none, here.at)
 
 -- the lines before one are taken
 reaches : (text rest line after : List ℕ) (progress : Progress) (message : Message) → IsSoFar text rest progress → lines_of rest ≡ line ∷ lines_of after

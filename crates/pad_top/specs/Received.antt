@@ -6,7 +6,7 @@ use Rattle.pad_text.specs.declared.name.Name.{Name}
 use Rattle.pad_message.specs.declared.message.Message.{Message}
 use Rattle.pad_message.specs.Message.{name_of}
 use Rattle.pad_message.specs.Content.{Reads}
-use Rattle.pad_top.specs.declared.received.TheConstants.{MOST_NAMES}
+use Rattle.pad_graph.specs.declared.graph.TheConstants.{MOST_NAMES}
 use Rattle.pad_model.specs.Base.{first_base}
 use Rattle.pad_list.specs.Number.{NoRepeat, IsNumberOf}
 use Rattle.pad_model.specs.Count.{IsKnown}

@@ -3,6 +3,8 @@
 use super::{Status, run};
 use pad_edge::{MemSink, MemSource};
 use pad_message::{Message, ReadRefused};
+use pad_model::Base;
+use pad_plain::{Messages, report};
 use pad_text::Name;
 use std::alloc::{AllocError, Global};
 use std::process::Abort;
@@ -409,5 +411,50 @@ fn some_hundred_lines_are_received(rt: HostRuntime) -> Result<(), Fail> {
     let (status, output) = replayed(alloc, input.as_bytes())?;
     assert_eq!(rt; status, Status::Ok);
     assert_eq!(rt; output.as_slice(), report_of(alloc, row, 40)?.as_bytes());
+    Ok(())
+}
+
+/// The report of the plain program, of these lines.
+fn plain_report(alloc: Global, input: &str) -> Result<String, AllocError> {
+    let base = Base::first(alloc);
+    let mut messages = Messages::new(alloc);
+    let mut unreadable = 0u64;
+    for line in input.lines() {
+        match Message::read(alloc, line) {
+            Ok(message) => messages.push(alloc, message)?,
+            Err(ReadRefused::Unreadable) => unreadable = unreadable.saturating_add(1),
+            Err(ReadRefused::NoMemory(refused)) => return Err(refused),
+        }
+    }
+    report(alloc, &base, &messages, unreadable)
+}
+
+/// The lines, the last one first.
+fn reversed(alloc: Global, input: &str) -> Result<String, AllocError> {
+    let mut lines = String::new(alloc);
+    for line in input.lines() {
+        lines = format!(in alloc; "{line}\n{}", lines.as_str())?;
+    }
+    Ok(lines)
+}
+
+#[test]
+fn the_chain_reports_what_the_plain_program_does(rt: HostRuntime) -> Result<(), Fail> {
+    let alloc = rt.alloc();
+    for (first, then) in [
+        ("a3 k b2", "b4"),
+        ("a9 w a3", "a4 k b9"),
+        ("a49 k10 a9 k10", "a10 b55"),
+    ] {
+        let mut input = lines_of(alloc, first)?.all;
+        input.push_str(lines_of(alloc, then)?.all.as_str())?;
+        let turned = reversed(alloc, input.as_str())?;
+        for lines in [input.as_str(), turned.as_str()] {
+            let (status, output) = replayed(alloc, lines.as_bytes())?;
+            let report = plain_report(alloc, lines)?;
+            assert_eq!(rt; status, Status::Ok, "at {first} {then}");
+            assert_eq!(rt; output.as_slice(), report.as_bytes(), "at {first} {then}");
+        }
+    }
     Ok(())
 }

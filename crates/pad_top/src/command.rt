@@ -7,12 +7,14 @@ ghost use Rattle.pad_top.specs.Run.{Ends, IsCutShort};
 ghost use Rattle.pad_top.specs.Inside.Ending.{IsEnd};
 ghost use Rattle.pad_top.specs.Words.{IsReplay};
 
-use crate::output::write_all;
 use crate::replay::replay;
 use crate::status::Status;
 use crate::words::is_replay;
 use pad_edge::{Failed, Sink, Source};
+use pad_output::write_all;
 use std::alloc::Global;
+use std::marker::Brand;
+use std::sync::ledger::Blank;
 
 /// Runs the command that the words ask for, over what comes in and what goes out, and tells how that ended.
 ///
@@ -56,7 +58,7 @@ pub fn run<I: Source, O: Sink>(
     if !is_replay(words) {
         return end(output, Status::Usage.line(), Status::Usage);
     }
-    match replay(alloc, input) {
+    match replay::<I, Brand>(alloc, input, Blank::new(1)) {
         Ok(report) => end(output, report.as_bytes(), Status::Ok),
         Err(refused) => {
             let status = refused.status();

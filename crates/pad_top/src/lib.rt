@@ -4,7 +4,6 @@
 mod command;
 mod input;
 mod laws;
-mod output;
 mod read_line;
 mod received;
 mod refused;

@@ -1,132 +1,112 @@
-ghost use Rattle.std.specs.Prelude.{◌≡◌, ◌<◌, ◌≤◌, ◌-◌, ◌^◌, ◌∷◌, ◌++◌, [], length, Ok, None, IfOk, IfErr, string_bytes};
+//! What was received of the lines of an input.
+
+ghost use Rattle.std.specs.Prelude.{◌≡◌, ◌≤◌, ◌<◌, ◌-◌, ◌^◌, [], Option, Some, None, length, IsOk, IfOk, IfErr, OnOk, string_bytes};
 ghost use Rattle.pad_message.specs.Content.{most_operations};
 ghost use Rattle.pad_message.specs.Kind.{HasInterval};
+ghost use Rattle.pad_message.specs.declared.message.Message.{Message};
+ghost use Rattle.pad_model.specs.Base.{first_base};
 ghost use Rattle.pad_model.specs.Path.{NamesDiffer};
 ghost use Rattle.pad_model.specs.Report.{IsReport};
-ghost use Rattle.pad_top.specs.Inside.Progress.{TestsRoom};
+ghost use Rattle.pad_top.specs.Received.{ReadsAs, HasFewNames};
+ghost use Rattle.pad_top.specs.Inside.Progress.{Progress, IsAt, progress_after, IsRefusedAtOnce};
+ghost use Rattle.pad_top.specs.Inside.Refusal.{IsMessageRefusal, IsLineRefusal};
 
 use crate::read_line::read_line;
 use crate::refused::ReplayRefused;
+use pad_chain::Chain;
 use pad_message::Message;
-use pad_model::Base;
-use pad_plain::{Messages, report};
-use pad_text::Name;
+use pad_patch::{Steps, UnitStore};
+use pad_report::Report;
+use pad_rope::Rope;
+use pad_text::Text;
 use std::alloc::{AllocError, Global};
-use std::marker::Model;
+use std::sync::ledger::Ledger;
 
-/// The most different names that a replay receives, the base's excepted.
-const MOST_NAMES: usize = 1_048_576;
-
-/// What was received of the lines of an input so far: the messages, in order, and how many lines read as none.
+/// What was received of the lines of an input so far: the chain of the messages, and how many lines read as none.
 #[derive(Drop)]
 pub(crate) struct Received {
-    base: Base,
-    messages: Messages,
+    chain: Chain<Rope>,
     unreadable: u64,
 }
 
-impl Model for Received {
-    ghost use Rattle.pad_top.specs.Inside.Progress.{Progress, IsInside};
-
-    ghost Value = { Progress };
-
-    ghost view = { λ received. record {
-      messages = received.messages;
-      unreadable = received.unreadable;
-    } };
-
-    ghost invariant = { λ received. IsInside received.base received.messages };
+/// The whole text of a store.
+fn whole_text<S: UnitStore>(alloc: Global, store: &S) -> Result<Text, AllocError>
+    ensures { IfOk result (λ text. text ≡ S.units store.now) }
+{
+    store.read(alloc, 0, store.length())
 }
 
 impl Received {
-    ghost use Rattle.pad_model.specs.Base.{first_base};
-    ghost use Rattle.pad_top.specs.Received.{HasFewNames};
-    ghost use Rattle.pad_top.specs.Inside.Progress.{Receives, IsRefusedAtOnce, IsMessageRefusal, IsLineRefusal, progress_after};
-
     /// Nothing was received yet.
-    pub(crate) fn new(alloc: Global) -> Received
-        ensures { result ≡ record { messages = []; unreadable = 0 } }
+    pub(crate) fn new(alloc: Global) -> Result<Received, AllocError>
+        ensures { IfOk result (λ received. IsAt received.chain received.unreadable (record { messages = []; unreadable = 0 })) }
     {
-        Received {
-            base: Base::first(alloc),
-            messages: Messages::new(alloc),
+        let chain = Chain::new(alloc)?;
+        Ok(Received {
+            chain,
             unreadable: 0,
-        }
+        })
     }
 
     /// The report of what was received.
     pub(crate) fn report(&self, alloc: Global) -> Result<String, AllocError>
-        ensures report { IfOk result (λ report. NamesDiffer self.now.messages
-            → IsReport first_base self.now.messages self.now.unreadable (string_bytes report)) }
-        ensures few { HasFewNames self.now.messages }
+        ensures report { IfOk result (λ report. (progress : Progress) → IsAt self.now.chain self.now.unreadable progress → NamesDiffer progress.messages
+            → IsReport first_base progress.messages progress.unreadable (string_bytes report)) }
+        ensures few { OnOk result ((progress : Progress) → IsAt self.now.chain self.now.unreadable progress → HasFewNames progress.messages) }
     {
-        report(alloc, &self.base, &self.messages, self.unreadable)
+        let text = whole_text(alloc, self.chain.text())?;
+        let best_end = self.chain.best();
+        let root_end = self.chain.root();
+        Report {
+            best: best_end.name,
+            height: best_end.height,
+            hash: self.chain.hash(),
+            known: self.chain.known(),
+            waiting: self.chain.waiting(),
+            unreadable: self.unreadable,
+            root: root_end.name,
+            root_height: root_end.height,
+            kept: self.chain.kept(),
+            overtaken: self.chain.overtaken(),
+        }
+        .lines(alloc, &text)
     }
 
-    /// What was received after one more line.
-    pub(crate) fn with_line(self, alloc: Global, line: &[u8]) -> Result<Received, ReplayRefused>
-        requires { self.unreadable < 2 ^ 64 - 1 }
-        ensures received { IfOk result (Receives line.now self) }
-        ensures refused { IfErr result (IsLineRefusal line.now self.messages) }
-        ensures at_once { IsRefusedAtOnce line.now → result ≡ Ok (progress_after None self) }
+    /// Receives one more line.
+    pub(crate) fn receive_line<L: Ledger>(
+        &mut self,
+        alloc: Global,
+        line: &[u8],
+        steps: &mut Steps<L>,
+    ) -> Result<(), ReplayRefused>
+        requires { self.old.unreadable < 2 ^ 64 - 1 }
+        ensures received { OnOk result ((outcome : Option Message) × ReadsAs line.now outcome
+            × ((progress : Progress) → IsAt self.old.chain self.old.unreadable progress → IsAt self.new.chain self.new.unreadable (progress_after outcome progress))) }
+        ensures refused { IfErr result (λ refused. (progress : Progress) → IsAt self.old.chain self.old.unreadable progress → IsLineRefusal line.now progress.messages refused) }
+        ensures at_once { IsRefusedAtOnce line.now → IsOk result }
     {
         match read_line(alloc, line)? {
-            Some(message) => self.with_message(alloc, message),
-            None => Ok(self.with_unreadable()),
+            Some(message) => self.receive(alloc, message, steps),
+            None => {
+                self.unreadable += 1;
+                Ok(())
+            }
         }
     }
 
-    /// What was received after a line that reads as no message.
-    fn with_unreadable(self) -> Received
-        requires { self.unreadable < 2 ^ 64 - 1 }
-        ensures { result ≡ progress_after None self }
-    {
-        let Received {
-            base,
-            messages,
-            unreadable,
-        } = self;
-        Received {
-            base,
-            messages,
-            unreadable: unreadable + 1,
-        }
-    }
-
-    /// What was received after a line that reads as this message.
-    fn with_message(self, alloc: Global, message: Message) -> Result<Received, ReplayRefused>
+    /// Receives a message, which a line reads as.
+    fn receive<L: Ledger>(
+        &mut self,
+        alloc: Global,
+        message: Message,
+        steps: &mut Steps<L>,
+    ) -> Result<(), ReplayRefused>
         requires few { length message.patch.ops ≤ most_operations }
         requires interval { HasInterval message.kind }
-        ensures received { IfOk result (λ received. received ≡ progress_after (Some message) self) }
-        ensures refused { IfErr result (IsMessageRefusal message self.messages) }
+        ensures received { OnOk result ((progress : Progress) → IsAt self.old.chain self.old.unreadable progress → IsAt self.new.chain self.new.unreadable (progress_after (Some message) progress)) }
+        ensures refused { IfErr result (λ refused. (progress : Progress) → IsAt self.old.chain self.old.unreadable progress → IsMessageRefusal message progress.messages refused) }
     {
-        let Received {
-            base,
-            mut messages,
-            unreadable,
-        } = self;
-        let name = message.name(alloc)?;
-        if is_one_too_many(&base, &messages, &name) {
-            return Err(ReplayRefused::Limit);
-        }
-        messages.push_named(message, name)?;
-        Ok(Received {
-            base,
-            messages,
-            unreadable,
-        })
+        self.chain.receive(alloc, message, steps)?;
+        Ok(())
     }
-}
-
-/// Whether a message of this name would bring one different name too many.
-fn is_one_too_many(base: &Base, messages: &Messages, name: &Name) -> bool
-    ensures { TestsRoom base.now messages.now name.now result }
-{
-    if messages.known(base) != MOST_NAMES {
-        return false;
-    }
-    if *name == base.name {
-        return false;
-    }
-    messages.place_of(name).is_none()
 }

@@ -2,6 +2,7 @@ ghost use Rattle.std.specs.Prelude.{◌≡◌};
 ghost use Rattle.pad_top.specs.declared.refused.ReplayRefused.TheVariants.{NoMemory};
 
 use crate::status::Status;
+use pad_chain::ReceiveRefused;
 use std::alloc::AllocError;
 use thiserror::Error;
 
@@ -24,6 +25,19 @@ impl From<AllocError> for ReplayRefused {
 
     fn from(refused: AllocError) -> ReplayRefused {
         ReplayRefused::NoMemory(refused)
+    }
+}
+
+impl From<ReceiveRefused> for ReplayRefused {
+    ghost use Rattle.pad_top.specs.Inside.Refusal.{refusal_of};
+
+    ghost from_gives = { λ error refused. refused ≡ refusal_of error };
+
+    fn from(error: ReceiveRefused) -> ReplayRefused {
+        match error {
+            ReceiveRefused::Full => ReplayRefused::Limit,
+            ReceiveRefused::NoMemory(error) => ReplayRefused::NoMemory(error),
+        }
     }
 }
 

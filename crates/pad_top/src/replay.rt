@@ -2,9 +2,8 @@ ghost use Rattle.std.specs.Prelude.{◌≡◌, ◌<◌, Err, IfOk, IfErr, IfSome
 ghost use Rattle.std.specs.Io.KnownBytes.{IsAtEnd};
 ghost use Rattle.pad_edge.specs.Count.{Rose};
 ghost use Rattle.pad_lines.specs.Line.{lines_of};
-ghost use Rattle.pad_top.specs.Received.{IsReceived};
-ghost use Rattle.pad_top.specs.Inside.Progress.{IsLinesRefusal};
-ghost use Rattle.pad_top.specs.Inside.Refusal.{IsReplayRefusal};
+ghost use Rattle.pad_top.specs.Inside.Progress.{IsWholeAt};
+ghost use Rattle.pad_top.specs.Inside.Refusal.{IsReplayRefusal, IsLinesRefusal};
 ghost use Rattle.pad_top.specs.Replay.{IsReplayed};
 
 use crate::input::read_all;
@@ -12,30 +11,44 @@ use crate::received::Received;
 use crate::refused::ReplayRefused;
 use pad_edge::Source;
 use pad_lines::split_line;
+use pad_patch::Steps;
 use std::alloc::Global;
+use std::sync::ledger::{Blank, Ledger};
 
-/// The report of what the lines of the whole input read as.
-pub(crate) fn replay<I: Source>(alloc: Global, input: &mut I) -> Result<String, ReplayRefused>
+/// The report of what the lines of the whole input read as. The steps that it takes are counted in the ledger.
+pub(crate) fn replay<I: Source, L: Ledger>(
+    alloc: Global,
+    input: &mut I,
+    blank: Blank,
+) -> Result<String, ReplayRefused>
+    requires name { blank.name ≡ L.name }
+    requires parts { blank.parts ≡ L.parts }
+    requires some { 0 < blank.parts }
     ensures report { IfOk result (λ text. IfSome (I.left input.old) (λ bytes. IsReplayed bytes (string_bytes text))) }
     ensures ended { OnOk result (IsAtEnd (I.left input.new)) }
     ensures refused { IfErr result (IsReplayRefusal (I.left input.old) (Rose (I.faults input.old) (I.faults input.new))) }
     ensures told { I.faults input.old < I.faults input.new → result ≡ Err ReplayRefused.ReadFault }
 {
+    let mut steps = Steps::<L>::new(blank);
     let bytes = read_all(alloc, input)?;
-    let received = receive_lines(alloc, bytes.as_slice())?;
+    let received = receive_lines(alloc, bytes.as_slice(), &mut steps)?;
     let text = received.report(alloc)?;
     Ok(text)
 }
 
 /// What is received of all lines of a text.
-fn receive_lines(alloc: Global, text: &[u8]) -> Result<Received, ReplayRefused>
-    ensures received { IfOk result (λ received. IsReceived (lines_of text.now) received.messages received.unreadable) }
+fn receive_lines<L: Ledger>(
+    alloc: Global,
+    text: &[u8],
+    steps: &mut Steps<L>,
+) -> Result<Received, ReplayRefused>
+    ensures received { IfOk result (λ received. IsWholeAt text.now received.chain received.unreadable) }
     ensures refused { IfErr result (IsLinesRefusal (lines_of text.now)) }
 {
-    let mut received = Received::new(alloc);
+    let mut received = Received::new(alloc)?;
     let mut rest = text;
     while let Some((line, after)) = split_line(rest) {
-        received = received.with_line(alloc, line)?;
+        received.receive_line(alloc, line, steps)?;
         rest = after;
     }
     Ok(received)

@@ -3,7 +3,7 @@ use Rattle.std.specs.Prelude.{◌≡◌, ℕ, ◌⊎◌, List, Option}
 use Rattle.std.specs.Io.KnownBytes.{Appends}
 use Rattle.pad_top.specs.declared.status.Status.{Status}
 use Rattle.pad_top.specs.declared.status.Status.TheVariants as status
-use Rattle.pad_top.specs.Output.{AppendsPart}
+use Rattle.pad_output.specs.Output.{AppendsPart}
 
 -- a text was written to its end, and the status is the one wanted; or a write failed
 abbrev pub IsEnd : Option (List ℕ) → Option (List ℕ) → Type 0 → List ℕ → Status → Status → Type 0

@@ -1,10 +1,14 @@
 -- Why a replay has no report, and the status that it ends with then.
 use Rattle.std.specs.Prelude.{⊤, ℕ, ◌<◌, List, length, Option, IfSome}
+use Rattle.pad_message.specs.declared.message.Message.{Message}
+use Rattle.pad_chain.specs.declared.receive_refused.ReceiveRefused.{ReceiveRefused}
+use Rattle.pad_chain.specs.declared.receive_refused.ReceiveRefused.TheVariants as receive
 use Rattle.pad_top.specs.declared.refused.ReplayRefused.{ReplayRefused}
 use Rattle.pad_top.specs.declared.refused.ReplayRefused.TheVariants as refused
 use Rattle.pad_top.specs.declared.status.Status.{Status}
 use Rattle.pad_top.specs.declared.status.Status.TheVariants as status
 use Rattle.pad_top.specs.Input.{most_bytes}
+use Rattle.pad_top.specs.Received.{LineSpells, HasFewNames, IsOneTooMany, MeetsOneTooMany}
 use Rattle.pad_top.specs.Replay.{IsPastLimit}
 
 -- why the input was not read to its end
@@ -24,3 +28,26 @@ abbrev pub status_of : ReplayRefused → Status
 status_of refused.ReadFault = status.ReadFault
 status_of refused.Limit = status.Limit
 status_of (refused.NoMemory error) = status.NoMemory
+
+-- why a chain did not receive a message
+abbrev pub refusal_of : ReceiveRefused → ReplayRefused
+refusal_of receive.Full = refused.Limit
+refusal_of (receive.NoMemory error) = refused.NoMemory error
+
+-- why a message was not received
+abbrev pub IsMessageRefusal : Message → List Message → ReplayRefused → Type 0
+IsMessageRefusal message messages refused.ReadFault = ⊥
+IsMessageRefusal message messages refused.Limit = HasFewNames messages × IsOneTooMany messages message
+IsMessageRefusal message messages (refused.NoMemory error) = ⊤
+
+-- why a line was not received
+abbrev pub IsLineRefusal : List ℕ → List Message → ReplayRefused → Type 0
+IsLineRefusal line messages refused.ReadFault = ⊥
+IsLineRefusal line messages refused.Limit = (message : Message) × LineSpells line message × IsMessageRefusal message messages refused.Limit
+IsLineRefusal line messages (refused.NoMemory error) = ⊤
+
+-- why the lines were not received to their end
+abbrev pub IsLinesRefusal : List (List ℕ) → ReplayRefused → Type 0
+IsLinesRefusal lines refused.ReadFault = ⊥
+IsLinesRefusal lines refused.Limit = MeetsOneTooMany lines
+IsLinesRefusal lines (refused.NoMemory error) = ⊤

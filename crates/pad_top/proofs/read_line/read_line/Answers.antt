@@ -1,5 +1,5 @@
 -- A line that reads as none spells no message.
-use Rattle.std.proofs.Common.{rules, ◌≡◌, sym, subst}
+use Rattle.std.proofs.Common.{rules, ◌≡◌, subst}
 use Rattle.pad_message.specs.Content.{Reads}
 use Rattle.pad_top.proofs.read_line.read_line.Goals as goal
 

@@ -1,10 +1,10 @@
 -- So far the lines before the rest of the text are received.
 use Rattle.std.proofs.Common.{length}
-use Rattle.pad_top.proofs.Taking.{IsSoFar}
+use Rattle.pad_top.proofs.Taking.{IsHere}
 use Rattle.pad_top.proofs.replay.receive_lines.Given as goal
 
 abbrev pub invariant-loop-line : goal.invariant-loop-line
-invariant-loop-line l = IsSoFar l.text l.rest l.received
+invariant-loop-line g l = IsHere l.text l.rest l.received.chain l.received.unreadable
 
 abbrev pub decreases-loop-line : goal.decreases-loop-line
-decreases-loop-line l = length l.rest
+decreases-loop-line g l = length l.rest

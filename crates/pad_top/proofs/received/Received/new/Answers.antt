@@ -1,6 +1,6 @@
--- The first base, and no messages.
-use Rattle.pad_top.proofs.Receiving.{IsInside-nil}
+-- A new chain is that of no messages.
+use Rattle.pad_top.proofs.Receiving.{at_first}
 use Rattle.pad_top.proofs.received.Received.new.Goals as goal
 
-pub invariant_of-result : goal.invariant_of-result
-invariant_of-result c = IsInside-nil _ _ c.first.ensures c.new.ensures
+pub returns : goal.returns
+returns c = at_first c.in_ok-chain.chain c.in_ok-chain.ensures.stands c.in_ok-chain.ensures.knows
