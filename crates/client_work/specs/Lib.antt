@@ -1,0 +1,3 @@
+pub mod Switch
+pub mod Carrying
+pub mod Inside
