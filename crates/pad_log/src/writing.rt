@@ -1,0 +1,209 @@
+ghost use Rattle.std.specs.Prelude.{◌≡◌, ◌⊎◌, ◌<◌, ◌≤◌, List, ℕ, Some, slice_get, OnOk, OnErr, IsErrOf, IsTrue};
+ghost use Rattle.std.specs.Io.KnownBytes.{Appends};
+ghost use Rattle.pad_edge.specs.Count.{Rose};
+ghost use Rattle.pad_output.specs.Output.{AppendsPart};
+ghost use Rattle.disk_volume.specs.Disk.{reads};
+ghost use Rattle.disk_volume.specs.Moments.{OnlySyncs};
+ghost use Rattle.log_format.specs.declared.damage.Damage.{Damage};
+ghost use Rattle.log_format.specs.declared.damage.Damage.TheVariants.{Entry};
+ghost use Rattle.log_format.specs.declared.form.Form.{Form};
+ghost use Rattle.keeper_channel.specs.Chan.{IsList};
+ghost use Rattle.keeper_channel.specs.Slot.{HasDamage, IsSlot, IsSlotOf};
+ghost use Rattle.keeper_table.specs.Files.{file_one, file_two, OfChannel};
+ghost use Rattle.pad_log.specs.Lines.{line_of_entry, line_of_count, log_text};
+
+use crate::lines::{count_line, entry_line};
+use crate::refused::LogRefused;
+use disk_volume::Volume;
+use gated_log::{Ledger, LoadRefused};
+use keeper_channel::{KeeperRefused, Slot, load_slot, read_entry};
+use keeper_table::files_of;
+use log_format::Damage;
+use netflux_codec::Channel;
+use pad_edge::Sink;
+use pad_output::write_all;
+use std::alloc::Global;
+
+/// Writes the log of a channel: a line for each entry of its files, and one that tells how many there are. The files are only synced
+/// and read. Refusals come in this order: `Store` if the load failed; `Damaged` exactly by the files, and then nothing is written;
+/// `Store` or `Write` if a read or a write failed, and then a part from the front is written.
+pub fn write_channel<O: Ledger, G: Ledger, V: Volume, S: Sink>(
+    alloc: Global,
+    volume: &mut V,
+    channel: &Channel,
+    output: &mut S,
+) -> Result<(), LogRefused>
+    requires apart { (file : List ℕ) → G.owns (file_two channel.now) file → O.owns (file_one channel.now) file → ⊥ }
+    ensures whole { V.tells → OnOk result ((list : List (List ℕ)) × IsList (O.opens_as Form.One (file_one channel.now)) (G.opens_as Form.Two (file_two channel.now)) (reads (V.disk volume.old)) list × Appends (S.written output.old) (S.written output.new) (log_text list)) }
+    ensures part { V.tells → OnErr result ((output.new ≡ output.old) ⊎ ((list : List (List ℕ)) × IsList (O.opens_as Form.One (file_one channel.now)) (G.opens_as Form.Two (file_two channel.now)) (reads (V.disk volume.old)) list × AppendsPart (S.written output.old) (S.written output.new) (log_text list))) }
+    ensures damaged { V.tells → (damage : Damage) → IsErrOf result (LogRefused.Damaged damage) → HasDamage (O.opens_as Form.One (file_one channel.now)) (G.opens_as Form.Two (file_two channel.now)) (O.damage Form.One (file_one channel.now)) (G.damage Form.Two (file_two channel.now)) (reads (V.disk volume.old)) damage }
+    ensures spoiled { V.tells → (damage : Damage) → HasDamage (O.opens_as Form.One (file_one channel.now)) (G.opens_as Form.Two (file_two channel.now)) (O.damage Form.One (file_one channel.now)) (G.damage Form.Two (file_two channel.now)) (reads (V.disk volume.old)) damage → OnOk result ⊥ × (IsErrOf result LogRefused.Write → ⊥) × (output.new ≡ output.old) }
+    ensures syncs { V.tells → OnlySyncs (OfChannel O.owns G.owns channel.now) (V.disk volume.old) (V.disk volume.new) }
+    ensures follows { V.follows volume.old volume.new }
+    ensures store { IsErrOf result LogRefused.Store → Rose (V.faults volume.old) (V.faults volume.new) }
+    ensures kept { IsErrOf result LogRefused.Store ⊎ (V.faults volume.new ≡ V.faults volume.old) }
+    ensures later { V.faults volume.old ≤ V.faults volume.new }
+    ensures write { IsErrOf result LogRefused.Write → Rose (S.faults output.old) (S.faults output.new) }
+    ensures written { IsErrOf result LogRefused.Write ⊎ (S.faults output.new ≡ S.faults output.old) }
+    ensures writes_later { S.faults output.old ≤ S.faults output.new }
+{
+    match files_of(alloc, channel) {
+        Ok(files) => write_files::<O, G, V, S>(
+            alloc,
+            volume,
+            channel,
+            files.one.as_str(),
+            files.two.as_str(),
+            output,
+        ),
+        Err(error) => Err(LogRefused::NoMemory(error)),
+    }
+}
+
+/// Writes it from its two files, by their names.
+fn write_files<O: Ledger, G: Ledger, V: Volume, S: Sink>(
+    alloc: Global,
+    volume: &mut V,
+    channel: &Channel,
+    one: &str,
+    two: &str,
+    output: &mut S,
+) -> Result<(), LogRefused>
+    requires one { one.now ≡ file_one channel.now }
+    requires two { two.now ≡ file_two channel.now }
+    requires apart { (file : List ℕ) → G.owns (file_two channel.now) file → O.owns (file_one channel.now) file → ⊥ }
+    ensures whole { V.tells → OnOk result ((list : List (List ℕ)) × IsList (O.opens_as Form.One (file_one channel.now)) (G.opens_as Form.Two (file_two channel.now)) (reads (V.disk volume.old)) list × Appends (S.written output.old) (S.written output.new) (log_text list)) }
+    ensures part { V.tells → OnErr result ((output.new ≡ output.old) ⊎ ((list : List (List ℕ)) × IsList (O.opens_as Form.One (file_one channel.now)) (G.opens_as Form.Two (file_two channel.now)) (reads (V.disk volume.old)) list × AppendsPart (S.written output.old) (S.written output.new) (log_text list))) }
+    ensures damaged { V.tells → (damage : Damage) → IsErrOf result (LogRefused.Damaged damage) → HasDamage (O.opens_as Form.One (file_one channel.now)) (G.opens_as Form.Two (file_two channel.now)) (O.damage Form.One (file_one channel.now)) (G.damage Form.Two (file_two channel.now)) (reads (V.disk volume.old)) damage }
+    ensures spoiled { V.tells → (damage : Damage) → HasDamage (O.opens_as Form.One (file_one channel.now)) (G.opens_as Form.Two (file_two channel.now)) (O.damage Form.One (file_one channel.now)) (G.damage Form.Two (file_two channel.now)) (reads (V.disk volume.old)) damage → OnOk result ⊥ × (IsErrOf result LogRefused.Write → ⊥) × (output.new ≡ output.old) }
+    ensures syncs { V.tells → OnlySyncs (OfChannel O.owns G.owns channel.now) (V.disk volume.old) (V.disk volume.new) }
+    ensures follows { V.follows volume.old volume.new }
+    ensures store { IsErrOf result LogRefused.Store → Rose (V.faults volume.old) (V.faults volume.new) }
+    ensures kept { IsErrOf result LogRefused.Store ⊎ (V.faults volume.new ≡ V.faults volume.old) }
+    ensures later { V.faults volume.old ≤ V.faults volume.new }
+    ensures write { IsErrOf result LogRefused.Write → Rose (S.faults output.old) (S.faults output.new) }
+    ensures written { IsErrOf result LogRefused.Write ⊎ (S.faults output.new ≡ S.faults output.old) }
+    ensures writes_later { S.faults output.old ≤ S.faults output.new }
+{
+    match load_slot::<O, G, V>(alloc, volume, one, two) {
+        Ok(slot) => write_log(alloc, volume, &slot, output),
+        Err(refused) => Err(refused_for(refused)),
+    }
+}
+
+/// What a log is refused with where the load before it was refused.
+fn refused_for(refused: LoadRefused) -> LogRefused
+    ensures damaged { (damage : Damage) → result ≡ LogRefused.Damaged damage → refused ≡ LoadRefused.Damaged damage }
+    ensures store { result ≡ LogRefused.Store → refused ≡ LoadRefused.Store }
+    ensures told { refused ≡ LoadRefused.Store → result ≡ LogRefused.Store }
+    ensures write { result ≡ LogRefused.Write → ⊥ }
+{
+    match refused {
+        LoadRefused::Store => LogRefused::Store,
+        LoadRefused::Damaged(damage) => LogRefused::Damaged(damage),
+        LoadRefused::NoMemory(error) => LogRefused::NoMemory(error),
+    }
+}
+
+/// Writes the log of a channel that is loaded, entry by entry, with memory for one entry at a time. `Damaged` comes only over a volume
+/// that does not tell, if the bytes that came hold no entry.
+pub fn write_log<O: Ledger, G: Ledger, V: Volume, S: Sink>(
+    alloc: Global,
+    volume: &mut V,
+    slot: &Slot<O, G>,
+    output: &mut S,
+) -> Result<(), LogRefused>
+    requires live { IsSlotOf (λ log. IsTrue (O.live log)) (λ log. IsTrue (G.live log)) O.count G.count slot.now }
+    requires slot { V.tells → (doubt : (List ℕ → List ℕ) → List (List ℕ)) × (held : List (List ℕ)) × (suspense : List (List ℕ)) × IsSlot O.holds G.holds doubt slot.now held suspense (V.disk volume.old) }
+    ensures whole { V.tells → (doubt : (List ℕ → List ℕ) → List (List ℕ)) (held suspense : List (List ℕ)) → IsSlot O.holds G.holds doubt slot.now held suspense (V.disk volume.old)
+        → OnOk result (Appends (S.written output.old) (S.written output.new) (log_text held)) }
+    ensures part { V.tells → (doubt : (List ℕ → List ℕ) → List (List ℕ)) (held suspense : List (List ℕ)) → IsSlot O.holds G.holds doubt slot.now held suspense (V.disk volume.old)
+        → OnErr result (AppendsPart (S.written output.old) (S.written output.new) (log_text held)) }
+    ensures damaged { (damage : Damage) → IsErrOf result (LogRefused.Damaged damage) → (index : ℕ) × (damage ≡ Entry index) }
+    ensures sound { V.tells → (damage : Damage) → IsErrOf result (LogRefused.Damaged damage) → ⊥ }
+    ensures disk { V.tells → V.disk volume.new ≡ V.disk volume.old }
+    ensures follows { V.follows volume.old volume.new }
+    ensures store { IsErrOf result LogRefused.Store → Rose (V.faults volume.old) (V.faults volume.new) }
+    ensures kept { IsErrOf result LogRefused.Store ⊎ (V.faults volume.new ≡ V.faults volume.old) }
+    ensures later { V.faults volume.old ≤ V.faults volume.new }
+    ensures write { IsErrOf result LogRefused.Write → Rose (S.faults output.old) (S.faults output.new) }
+    ensures written { IsErrOf result LogRefused.Write ⊎ (S.faults output.new ≡ S.faults output.old) }
+    ensures writes_later { S.faults output.old ≤ S.faults output.new }
+{
+    let total = slot.index.count();
+    for index in 0..total {
+        write_entry(alloc, volume, slot, index, output)?;
+    }
+    write_count(alloc, total, output)
+}
+
+/// Writes the line of an entry.
+fn write_entry<O: Ledger, G: Ledger, V: Volume, S: Sink>(
+    alloc: Global,
+    volume: &mut V,
+    slot: &Slot<O, G>,
+    index: u64,
+    output: &mut S,
+) -> Result<(), LogRefused>
+    requires live { IsSlotOf (λ log. IsTrue (O.live log)) (λ log. IsTrue (G.live log)) O.count G.count slot.now }
+    requires index { index < slot.now.index.count }
+    requires slot { V.tells → (doubt : (List ℕ → List ℕ) → List (List ℕ)) × (held : List (List ℕ)) × (suspense : List (List ℕ)) × IsSlot O.holds G.holds doubt slot.now held suspense (V.disk volume.old) }
+    ensures whole { V.tells → (doubt : (List ℕ → List ℕ) → List (List ℕ)) (held suspense : List (List ℕ)) → IsSlot O.holds G.holds doubt slot.now held suspense (V.disk volume.old)
+        → (payload : List ℕ) → slice_get held index ≡ Some payload → OnOk result (Appends (S.written output.old) (S.written output.new) (line_of_entry index payload)) }
+    ensures part { V.tells → (doubt : (List ℕ → List ℕ) → List (List ℕ)) (held suspense : List (List ℕ)) → IsSlot O.holds G.holds doubt slot.now held suspense (V.disk volume.old)
+        → (payload : List ℕ) → slice_get held index ≡ Some payload → OnErr result (AppendsPart (S.written output.old) (S.written output.new) (line_of_entry index payload)) }
+    ensures damaged { (damage : Damage) → IsErrOf result (LogRefused.Damaged damage) → (index : ℕ) × (damage ≡ Entry index) }
+    ensures sound { V.tells → (damage : Damage) → IsErrOf result (LogRefused.Damaged damage) → ⊥ }
+    ensures disk { V.tells → V.disk volume.new ≡ V.disk volume.old }
+    ensures follows { V.follows volume.old volume.new }
+    ensures store { IsErrOf result LogRefused.Store → Rose (V.faults volume.old) (V.faults volume.new) }
+    ensures kept { IsErrOf result LogRefused.Store ⊎ (V.faults volume.new ≡ V.faults volume.old) }
+    ensures later { V.faults volume.old ≤ V.faults volume.new }
+    ensures write { IsErrOf result LogRefused.Write → Rose (S.faults output.old) (S.faults output.new) }
+    ensures written { IsErrOf result LogRefused.Write ⊎ (S.faults output.new ≡ S.faults output.old) }
+    ensures writes_later { S.faults output.old ≤ S.faults output.new }
+{
+    match read_entry(alloc, volume, slot, index) {
+        Ok(payload) => match entry_line(alloc, index, payload.as_slice()) {
+            Ok(Some(line)) => write_text(output, line.as_bytes()),
+            Ok(None) => Err(LogRefused::Damaged(Damage::Entry(index))),
+            Err(error) => Err(LogRefused::NoMemory(error)),
+        },
+        Err(KeeperRefused::Full) => unreachable!(),
+        Err(KeeperRefused::Store) => Err(LogRefused::Store),
+        Err(KeeperRefused::Damaged(damage)) => Err(LogRefused::Damaged(damage)),
+        Err(KeeperRefused::NoMemory(error)) => Err(LogRefused::NoMemory(error)),
+    }
+}
+
+/// Writes the line that tells how many entries there are.
+fn write_count<S: Sink>(alloc: Global, total: u64, output: &mut S) -> Result<(), LogRefused>
+    ensures whole { OnOk result (Appends (S.written output.old) (S.written output.new) (line_of_count total)) }
+    ensures part { OnErr result (AppendsPart (S.written output.old) (S.written output.new) (line_of_count total)) }
+    ensures store { IsErrOf result LogRefused.Store → ⊥ }
+    ensures sound { (damage : Damage) → IsErrOf result (LogRefused.Damaged damage) → ⊥ }
+    ensures write { IsErrOf result LogRefused.Write → Rose (S.faults output.old) (S.faults output.new) }
+    ensures written { IsErrOf result LogRefused.Write ⊎ (S.faults output.new ≡ S.faults output.old) }
+    ensures writes_later { S.faults output.old ≤ S.faults output.new }
+{
+    match count_line(alloc, total) {
+        Ok(line) => write_text(output, line.as_bytes()),
+        Err(error) => Err(LogRefused::NoMemory(error)),
+    }
+}
+
+/// Writes a text.
+fn write_text<S: Sink>(output: &mut S, text: &[u8]) -> Result<(), LogRefused>
+    ensures whole { OnOk result (Appends (S.written output.old) (S.written output.new) text.now) }
+    ensures part { OnErr result (AppendsPart (S.written output.old) (S.written output.new) text.now) }
+    ensures store { IsErrOf result LogRefused.Store → ⊥ }
+    ensures sound { (damage : Damage) → IsErrOf result (LogRefused.Damaged damage) → ⊥ }
+    ensures write { IsErrOf result LogRefused.Write → Rose (S.faults output.old) (S.faults output.new) }
+    ensures written { IsErrOf result LogRefused.Write ⊎ (S.faults output.new ≡ S.faults output.old) }
+    ensures writes_later { S.faults output.old ≤ S.faults output.new }
+{
+    match write_all(output, text) {
+        Ok(()) => Ok(()),
+        Err(_) => Err(LogRefused::Write),
+    }
+}
