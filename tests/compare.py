@@ -246,7 +246,9 @@ class Pad:
         if kind == "not sound":
             tip, _ = self.patch(tip, True)
         while places[tip].height < height:
-            tip = self.grow(tip) if kind == "checkpoints" else self.patch(tip, False)[0]
+            # On a message that is not sound nothing is: what grows there would stay where it is.
+            grows = kind == "checkpoints" and places[tip].text is not None
+            tip = self.grow(tip) if grows else self.patch(tip, False)[0]
 
     def top(self):
         """Messages on the best chain that would better it, were they sound."""
