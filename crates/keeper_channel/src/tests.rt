@@ -27,6 +27,18 @@ const SHORT: &[u8] = b"PADLOG1\n\x01\0\0\0\x1f0112233445566778899aabbccddeeff\0"
 /// The payload of an entry with the content `d` at the moment 7.
 const ENTRY: &[u8] = b"\0\0\0\0\0\0\0\x0700112233445566778899aabbccddeeffd";
 
+/// How many entries more than one group of a move has.
+const MANY: u64 = 65;
+
+/// The entry of `OLD` as it stands in a file, and as it does when it was moved.
+const OLD_ENTRY: &[u8] = b"\x01\0\0\0\x2100112233445566778899aabbccddeeffa";
+
+const MOVED_ENTRY: &[u8] = b"\x01\0\0\0\x29\0\0\0\0\0\0\0\000112233445566778899aabbccddeeffa";
+
+/// The marker, and `ENTRY` behind it.
+const MOVED_END: &[u8] =
+    b"\x01\0\0\0\0\x01\0\0\0\x29\0\0\0\0\0\0\0\x0700112233445566778899aabbccddeeffd\0";
+
 /// A group of that entry alone.
 fn group(alloc: Global) -> Result<Payloads, AllocError>
     ensures one { IfOk result (λ group. length group ≡ 1) }
@@ -76,6 +88,31 @@ fn the_first_store_moves_a_channel(rt: HostRuntime) -> Result<(), Fail> {
     assert_eq!(rt; store(alloc, &mut volume)?.1, Ok(1));
     assert_eq!(rt; bytes_of(alloc, &mut volume, ONE)?.as_slice(), OLD);
     assert_eq!(rt; bytes_of(alloc, &mut volume, TWO)?.as_slice(), MOVED);
+    Ok(())
+}
+
+/// A file of this magic, this entry `MANY` times, and this end.
+fn file_of(alloc: Global, magic: &[u8], entry: &[u8], end: &[u8]) -> Result<Vec<u8>, AllocError> {
+    let mut bytes = Vec::new(alloc);
+    bytes.extend_from_slice(magic)?;
+    for _entry in 0..MANY {
+        bytes.extend_from_slice(entry)?;
+    }
+    bytes.extend_from_slice(end)?;
+    Ok(bytes)
+}
+
+#[test]
+fn more_than_one_group_is_moved(rt: HostRuntime) -> Result<(), Fail> {
+    let alloc = rt.alloc();
+    let old = file_of(alloc, b"PADLOG1\n", OLD_ENTRY, b"\0")?;
+    let moved = file_of(alloc, b"PADLOG2\n", MOVED_ENTRY, MOVED_END)?;
+    let mut volume = volume_of(alloc, old.as_slice())?;
+    assert_eq!(rt; store(alloc, &mut volume)?.1, Ok(MANY));
+    assert_eq!(rt;
+        bytes_of(alloc, &mut volume, TWO)?.as_slice(),
+        moved.as_slice()
+    );
     Ok(())
 }
 
