@@ -1,4 +1,5 @@
 mod Ending
+mod Logs
 mod Once
 mod Order
 mod Receiving

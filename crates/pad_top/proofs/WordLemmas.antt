@@ -1,6 +1,8 @@
 -- A list of one word.
-use Rattle.std.proofs.Common.{◌≡◌, ℕ, Bool, true, false, nat_eq, List, [], ◌∷◌, length, map, get_or, IsTrue, refl, sym, ap, ◌∙◌, arith}
+use Rattle.std.proofs.Common.{◌≡◌, inl, inr, ℕ, Bool, true, false, nat_eq, List, [], ◌∷◌, length, map, get_or, IsTrue, refl, sym, ap, ◌∙◌, arith}
 use Rattle.std.specs.Cmp.Lexicographic.{pointwise, bytes_decides, same_text}
+use Rattle.std.specs.Prelude.{codes, ◌==◌, ◌≢◌}
+use Rattle.pad_top.specs.Words.{IsReplay, AsksLog, IsLog, IsCommand}
 
 -- a list of one element maps to one
 map-one : {A : Type 0} (f : A → List ℕ) (xs : List A) (x : A) → length xs ≡ 1 → x ≡ get_or xs 0 x → map f xs ≡ f x ∷ []
@@ -21,3 +23,41 @@ is_only_word f xs x text want same one first said is =
     let only : map f xs ≡ f x ∷ [] = map-one f xs x one first in
     let test = is_wanted text want same is in
     (λ holds. let e : text ≡ want = test.0 holds in cc, λ e. test.1 cc)
+
+-- a replay asks for no log
+pub replay_asks_no_log : (words : List (List ℕ)) → IsReplay words → ¬ (AsksLog words)
+replay_asks_no_log words replay asks =
+    let both : codes "replay" ∷ [] ≡ codes "log" ∷ asks.1.0 ∷ asks.0 ∷ [] = sym replay ∙ asks.1.1 in
+    cc
+
+-- the words name one channel
+pub same_channel : (words : List (List ℕ)) (one other : List ℕ) → IsLog words one → IsLog words other → one ≡ other
+same_channel words one other first second =
+    let both : codes "log" ∷ first.0 ∷ one ∷ [] ≡ codes "log" ∷ second.0 ∷ other ∷ [] = sym first.1 ∙ second.1 in
+    cc
+
+-- words that ask for neither are no command
+pub no_command : (words : List (List ℕ)) → ¬ (IsReplay words) → ¬ (AsksLog words) → ¬ (IsCommand words)
+no_command words no_replay no_log (inl replay) = no_replay replay
+no_command words no_replay no_log (inr asks) = no_log asks
+
+-- a list of three elements maps to three
+pub three_words : {A : Type 0} (f : A → List ℕ) (xs : List A) (x y z : A) → length xs ≡ 3 → x ≡ get_or xs 0 x → y ≡ get_or xs 1 y → z ≡ get_or xs 2 z
+    → map f xs ≡ f x ∷ f y ∷ f z ∷ []
+three_words f [] x y z three first second third = absurd (omega arith)
+three_words f (a ∷ []) x y z three first second third = absurd (omega arith)
+three_words f (a ∷ b ∷ []) x y z three first second third = absurd (omega arith)
+three_words f (a ∷ b ∷ d ∷ []) x y z three first second third =
+    ap (λ w. f w ∷ f b ∷ f d ∷ []) (sym first) ∙ ap (λ w. f x ∷ f w ∷ f d ∷ []) (sym second) ∙ ap (λ w. f x ∷ f y ∷ f w ∷ []) (sym third)
+three_words f (a ∷ b ∷ d ∷ e ∷ xs) x y z three first second third = absurd (omega arith)
+
+-- a text that a test found to be the wanted one
+pub wanted_text : (text want : List ℕ) (same : Bool) → same ≡ pointwise nat_eq text want → IsTrue same → text ≡ want
+wanted_text text want same is holds = (is_wanted text want same is).0 holds
+
+-- a text that a test found not to be empty
+pub some_text : (text slice : List ℕ) (test : Bool) → slice ≡ text → test ≡ (length slice == 0) → test ≡ false → text ≢ []
+some_text text slice test same is no_test empty = no (sym no_test ∙ is ∙ ap (λ (l : List ℕ). length l == 0) (same ∙ empty))
+  where
+    no : false ≡ true → ⊥
+    no e = cc

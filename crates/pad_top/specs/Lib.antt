@@ -1,6 +1,7 @@
 pub mod Input
 pub mod Inside
 pub mod Laws
+pub mod Log
 pub mod Output
 pub mod Received
 pub mod Replay

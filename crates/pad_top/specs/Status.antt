@@ -10,8 +10,10 @@ status_line status.Ok = []
 status_line status.Usage = codes "usage" ++ newline ∷ []
 status_line status.ReadFault = codes "read fault" ++ newline ∷ []
 status_line status.WriteFault = []
+status_line status.StoreFault = codes "store fault" ++ newline ∷ []
 status_line status.Limit = codes "limit" ++ newline ∷ []
 status_line status.NoMemory = []
+status_line status.Damaged = codes "damaged" ++ newline ∷ []
 
 -- the number that a program ends with
 abbrev pub status_number : Status → ℕ
@@ -19,5 +21,7 @@ status_number status.Ok = 0
 status_number status.Usage = 2
 status_number status.ReadFault = 3
 status_number status.WriteFault = 4
+status_number status.StoreFault = 5
 status_number status.Limit = 7
 status_number status.NoMemory = 9
+status_number status.Damaged = 10

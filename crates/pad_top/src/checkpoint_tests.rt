@@ -1,6 +1,7 @@
 //! Replays of inputs with checkpoints. The expected names, hashes and counts are those of another program.
 
 use super::{Status, run};
+use disk_volume::MemVolume;
 use pad_edge::{MemSink, MemSource};
 use pad_message::{Message, ReadRefused};
 use pad_model::Base;
@@ -143,7 +144,14 @@ fn replayed(alloc: Global, input: &[u8]) -> Result<(Status, Vec<u8>), AllocError
     let mut source = MemSource::new(input.to_vec(alloc)?, 4096, Vec::new(alloc));
     let room = vec![in alloc; b' '; 2048]?;
     let mut sink = MemSink::new(room, 512, Vec::new(alloc));
-    let status = run(alloc, words.as_slice(), &mut source, &mut sink);
+    let mut volume = MemVolume::new(alloc, Vec::new(alloc));
+    let status = run(
+        alloc,
+        words.as_slice(),
+        &mut source,
+        &mut sink,
+        &mut volume,
+    );
     Ok((status, sink.as_slice().to_vec(alloc)?))
 }
 

@@ -2,8 +2,10 @@
 #![tactic(auto)]
 
 mod command;
+mod end;
 mod input;
 mod laws;
+mod log;
 mod read_line;
 mod received;
 mod refused;

@@ -12,10 +12,14 @@ pub enum Status {
     ReadFault,
     /// A write of the output failed.
     WriteFault,
+    /// A call of the volume failed.
+    StoreFault,
     /// The input has more bytes, or more different names of messages, than a run takes.
     Limit,
     /// There was not enough memory.
     NoMemory,
+    /// The files of the channel are damaged.
+    Damaged,
 }
 
 impl Status {
@@ -28,8 +32,10 @@ impl Status {
             Status::Usage => 2,
             Status::ReadFault => 3,
             Status::WriteFault => 4,
+            Status::StoreFault => 5,
             Status::Limit => 7,
             Status::NoMemory => 9,
+            Status::Damaged => 10,
         }
     }
 
@@ -41,7 +47,9 @@ impl Status {
             Status::Ok | Status::WriteFault | Status::NoMemory => b"",
             Status::Usage => b"usage\n",
             Status::ReadFault => b"read fault\n",
+            Status::StoreFault => b"store fault\n",
             Status::Limit => b"limit\n",
+            Status::Damaged => b"damaged\n",
         }
     }
 }

@@ -1,6 +1,7 @@
 //! Replays over sources and sinks in memory. The expected names and hashes are those of another program.
 
 use super::{Status, run};
+use disk_volume::{MemVolume, Volume};
 use pad_edge::{MemSink, MemSource};
 use std::alloc::{AllocError, Global};
 use std::process::Abort;
@@ -168,7 +169,14 @@ fn ran(alloc: Global, line: &str, input: &[u8]) -> Result<(Status, Vec<u8>), All
     let words = words_of(alloc, line)?;
     let mut source = MemSource::new(input.to_vec(alloc)?, 7, Vec::new(alloc));
     let mut sink = MemSink::new(spaces(alloc, 1024)?, 5, Vec::new(alloc));
-    let status = run(alloc, words.as_slice(), &mut source, &mut sink);
+    let mut volume = MemVolume::new(alloc, Vec::new(alloc));
+    let status = run(
+        alloc,
+        words.as_slice(),
+        &mut source,
+        &mut sink,
+        &mut volume,
+    );
     Ok((status, sink.as_slice().to_vec(alloc)?))
 }
 
@@ -310,7 +318,14 @@ fn faults_end_a_replay(rt: HostRuntime) -> Result<(), Fail> {
         let bytes = input.as_bytes().to_vec(alloc)?;
         let mut source = MemSource::new(bytes, 1, [read].to_vec(alloc)?);
         let mut sink = MemSink::new(spaces(alloc, room)?, 1, [write].to_vec(alloc)?);
-        let status = run(alloc, words.as_slice(), &mut source, &mut sink);
+        let mut volume = MemVolume::new(alloc, Vec::new(alloc));
+        let status = run(
+            alloc,
+            words.as_slice(),
+            &mut source,
+            &mut sink,
+            &mut volume,
+        );
         assert_eq!(rt; status, want, "at {output:?}");
         assert_eq!(rt; sink.as_slice(), output.as_bytes(), "at {output:?}");
     }
@@ -324,7 +339,14 @@ fn an_input_has_at_most_2_pow_28_bytes(rt: HostRuntime) -> Result<(), Fail> {
     let bytes = spaces(alloc, (1 << 28) + 1)?;
     let mut source = MemSource::new(bytes, 1 << 20, Vec::new(alloc));
     let mut sink = MemSink::new(spaces(alloc, 64)?, 64, Vec::new(alloc));
-    let status = run(alloc, words.as_slice(), &mut source, &mut sink);
+    let mut volume = MemVolume::new(alloc, Vec::new(alloc));
+    let status = run(
+        alloc,
+        words.as_slice(),
+        &mut source,
+        &mut sink,
+        &mut volume,
+    );
     assert_eq!(rt; status, Status::Limit);
     assert_eq!(rt; sink.as_slice(), b"limit\n".as_slice());
     Ok(())
@@ -337,9 +359,72 @@ fn statuses_have_their_numbers(rt: HostRuntime) {
         (Status::Usage, 2),
         (Status::ReadFault, 3),
         (Status::WriteFault, 4),
+        (Status::StoreFault, 5),
         (Status::Limit, 7),
         (Status::NoMemory, 9),
+        (Status::Damaged, 10),
     ] {
         assert_eq!(rt; status.number(), number);
     }
+}
+
+/// The digits of a channel.
+const CHANNEL: &str = "00112233445566778899aabbccddeeff";
+
+/// How the words end over this volume, and what is written.
+fn logged(
+    alloc: Global,
+    line: &str,
+    volume: &mut MemVolume,
+) -> Result<(Status, Vec<u8>), AllocError> {
+    let words = words_of(alloc, line)?;
+    let mut source = MemSource::new(Vec::new(alloc), 7, Vec::new(alloc));
+    let mut sink = MemSink::new(spaces(alloc, 256)?, 5, Vec::new(alloc));
+    let status = run(alloc, words.as_slice(), &mut source, &mut sink, volume);
+    Ok((status, sink.as_slice().to_vec(alloc)?))
+}
+
+#[test]
+fn a_log_tells_what_a_folder_has_of_a_channel(rt: HostRuntime) -> Result<(), Fail> {
+    let alloc = rt.alloc();
+    let line = format!(in alloc; "log pads {CHANNEL}")?;
+    let one = format!(in alloc; "{CHANNEL}.padlog")?;
+    let two = format!(in alloc; "{CHANNEL}.padlog2")?;
+    let mut volume = MemVolume::new(alloc, Vec::new(alloc));
+
+    let none = logged(alloc, line.as_str(), &mut volume)?;
+    assert_eq!(rt; none.0, Status::Ok);
+    assert_eq!(rt; none.1.as_slice(), b"entries 0\n".as_slice());
+
+    // one entry: an open gate, 33 bytes, the sender, `m`, and a closed gate
+    let old = b"PADLOG1\n\x01\x00\x00\x00\x210123456789abcdef0123456789abcdefm\x00";
+    assert!(rt; volume.write_at(one.as_str(), 0, old.as_slice()).is_ok());
+    let some = logged(alloc, line.as_str(), &mut volume)?;
+    assert_eq!(rt; some.0, Status::Ok);
+    let told = b"0 0 0123456789abcdef0123456789abcdef \"m\"\nentries 1\n";
+    assert_eq!(rt; some.1.as_slice(), told.as_slice());
+
+    // the magic of the other form
+    assert!(rt; volume.write_at(two.as_str(), 0, b"PADLOG1\n\x00\x00".as_slice()).is_ok());
+    let damaged = logged(alloc, line.as_str(), &mut volume)?;
+    assert_eq!(rt; damaged.0, Status::Damaged);
+    assert_eq!(rt; damaged.1.as_slice(), b"damaged\n".as_slice());
+    Ok(())
+}
+
+#[test]
+fn a_folder_that_fails_is_told(rt: HostRuntime) -> Result<(), Fail> {
+    let alloc = rt.alloc();
+    let line = format!(in alloc; "log pads {CHANNEL}")?;
+    let mut volume = MemVolume::new(alloc, [0].to_vec(alloc)?);
+    let failed = logged(alloc, line.as_str(), &mut volume)?;
+    assert_eq!(rt; failed.0, Status::StoreFault);
+    assert_eq!(rt; failed.1.as_slice(), b"store fault\n".as_slice());
+
+    // no channel, and one in capitals
+    for line in ["log pads", "log pads 00112233445566778899AABBCCDDEEFF"] {
+        let other = logged(alloc, line, &mut volume)?;
+        assert_eq!(rt; other.0, Status::Usage, "{line}");
+    }
+    Ok(())
 }

@@ -1,30 +1,28 @@
--- A run that a failed write cut short.
-use Rattle.std.proofs.Common.{◌≡◌, true, false, IfSome, map, string_bytes, refl, sym, subst}
+-- Which command the words ask for.
+use Rattle.std.proofs.Common.{◌≡◌, true, false, map, string_bytes, refl, sym, subst}
 use Rattle.pad_edge.specs.Count.{Rose}
-use Rattle.pad_top.specs.Replay.{IsReplayed}
-use Rattle.pad_top.specs.Run.{Ends}
-use Rattle.pad_top.specs.Status.{status_line}
+use Rattle.disk_volume.specs.Disk.{reads}
+use Rattle.pad_top.specs.Log.{IsChannelDamage, LogEnds}
+use Rattle.pad_top.specs.Output.{Writes}
 use Rattle.pad_top.specs.Words.{IsReplay}
-use Rattle.pad_top.proofs.Ending.{refusal_ends, cut_short}
+use Rattle.pad_top.proofs.Ending.{cut_short}
+use Rattle.pad_top.proofs.WordLemmas.{same_channel, no_command}
 use Rattle.pad_top.proofs.command.run.Goals as goal
 
-pub returns-then-not-is_replay-clause-part : goal.returns-then-not-is_replay-clause-part
-returns-then-not-is_replay-clause-part g c =
-    let no_replay : ¬ (IsReplay (map string_bytes c.args.words.now)) = λ is. let both : false ≡ true = c.if-not-is_replay.ensures.1 is in cc in
-    cut_short _ _ _ _ _ _ _ _ _ c.end.ensures.end (no_replay, c.line.ensures)
+pub returns-in-Some-clause-log : goal.returns-in-Some-clause-log
+returns-in-Some-clause-log g c told channel is other =
+    let same = same_channel (map string_bytes c.args.words.now) channel c.in-Some.words.channel is c.in-Some.ensures.some in
+    let failed = Rose (g.V.Volume.faults c.args.volume.now) (g.V.Volume.faults c.log.new.volume) in
+    subst (λ digits. Writes (LogEnds digits (reads (g.V.Volume.disk c.args.volume.now)) failed c.log.result) (g.O.Sink.written c.args.output.now) (g.O.Sink.written c.log.new.output))
+      (sym same) (c.log.ensures.whole told other)
 
-pub returns-in-Ok-clause-part : goal.returns-in-Ok-clause-part
-returns-in-Ok-clause-part g c =
-    cut_short _ _ _ _ _ _ _ _ _ c.end-in-Ok.ensures.end (
-      c.if-not-is_replay.ensures.0 refl,
-      subst (λ text. IfSome (g.I.Source.left c.args.input.now) (λ bytes. IsReplayed bytes text)) (sym c.as_bytes.ensures.value) c.in-Ok.ensures.report,
-    )
+pub returns-in-Some-clause-spoiled : goal.returns-in-Some-clause-spoiled
+returns-in-Some-clause-spoiled g c told channel is damage has =
+    let same = same_channel (map string_bytes c.args.words.now) channel c.in-Some.words.channel is c.in-Some.ensures.some in
+    c.log.ensures.spoiled told damage (subst (λ digits. IsChannelDamage digits (reads (g.V.Volume.disk c.args.volume.now)) damage) same has)
 
-pub returns-in-Err-clause-part : goal.returns-in-Err-clause-part
-returns-in-Err-clause-part g c =
+pub returns-in-None-clause-part : goal.returns-in-None-clause-part
+returns-in-None-clause-part g c no_log =
     let words = map string_bytes c.args.words.now in
-    let left = g.I.Source.left c.args.input.now in
-    let failed = Rose (g.I.Source.faults c.args.input.now) (g.I.Source.faults c.replay.new.input) in
-    let ends = refusal_ends words left failed c.in-Err.refused (c.if-not-is_replay.ensures.0 refl) c.in-Err.ensures.refused in
-    let at_status = subst (λ status. Ends words left failed status (status_line status)) (sym c.status-status.ensures) ends in
-    cut_short _ _ _ _ _ _ _ _ _ c.end-in-Err.ensures.end (subst (Ends words left failed c.status-status.result) (sym c.line-in-Err.ensures) at_status)
+    let no_replay : ¬ (IsReplay words) = λ is. let both : false ≡ true = c.if-is_replay.ensures.1 is in cc in
+    cut_short _ _ _ _ _ _ _ _ _ c.end.ensures.end (no_command words no_replay no_log, c.line.ensures)

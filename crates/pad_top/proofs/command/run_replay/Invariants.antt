@@ -1,4 +1,4 @@
-use Rattle.pad_top.proofs.command.run.Given as goal
+use Rattle.pad_top.proofs.command.run_replay.Given as goal
 
 -- the counter of the command has a ledger of its own
 abbrev pub ghosts-replay : goal.ghosts-replay
