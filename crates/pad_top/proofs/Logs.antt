@@ -56,7 +56,7 @@ pub store_ends : (channel : List ℕ) (files : List ℕ → List ℕ) (store_fai
     → result ≢ status.WriteFault → Writes (LogEnds channel files store_failed result) old new
 store_ends channel files store_failed old mid new write_failed result failed front (inl whole) other =
     subst (λ s. Writes (LogEnds channel files store_failed s) old new) (sym whole.0)
-      (front.0 ++ status_line status.StoreFault, (failed, (front.0, front.1, refl)), Appends-trans old mid new front.0 (status_line status.StoreFault) front.2 whole.1)
+    (front.0 ++ status_line status.StoreFault, (failed, (front.0, front.1, refl)), Appends-trans old mid new front.0 (status_line status.StoreFault) front.2 whole.1)
 store_ends channel files store_failed old mid new write_failed result failed front (inr part) other = absurd (other part.0)
 
 pub store_cut : (channel : List ℕ) (files : List ℕ → List ℕ) (store_failed : Type 0) (old mid new : Option (List ℕ)) (write_failed : Type 0) (result : Status)

@@ -145,13 +145,7 @@ fn replayed(alloc: Global, input: &[u8]) -> Result<(Status, Vec<u8>), AllocError
     let room = vec![in alloc; b' '; 2048]?;
     let mut sink = MemSink::new(room, 512, Vec::new(alloc));
     let mut volume = MemVolume::new(alloc, Vec::new(alloc));
-    let status = run(
-        alloc,
-        words.as_slice(),
-        &mut source,
-        &mut sink,
-        &mut volume,
-    );
+    let status = run(alloc, words.as_slice(), &mut source, &mut sink, &mut volume);
     Ok((status, sink.as_slice().to_vec(alloc)?))
 }
 

@@ -170,13 +170,7 @@ fn ran(alloc: Global, line: &str, input: &[u8]) -> Result<(Status, Vec<u8>), All
     let mut source = MemSource::new(input.to_vec(alloc)?, 7, Vec::new(alloc));
     let mut sink = MemSink::new(spaces(alloc, 1024)?, 5, Vec::new(alloc));
     let mut volume = MemVolume::new(alloc, Vec::new(alloc));
-    let status = run(
-        alloc,
-        words.as_slice(),
-        &mut source,
-        &mut sink,
-        &mut volume,
-    );
+    let status = run(alloc, words.as_slice(), &mut source, &mut sink, &mut volume);
     Ok((status, sink.as_slice().to_vec(alloc)?))
 }
 
@@ -319,13 +313,7 @@ fn faults_end_a_replay(rt: HostRuntime) -> Result<(), Fail> {
         let mut source = MemSource::new(bytes, 1, [read].to_vec(alloc)?);
         let mut sink = MemSink::new(spaces(alloc, room)?, 1, [write].to_vec(alloc)?);
         let mut volume = MemVolume::new(alloc, Vec::new(alloc));
-        let status = run(
-            alloc,
-            words.as_slice(),
-            &mut source,
-            &mut sink,
-            &mut volume,
-        );
+        let status = run(alloc, words.as_slice(), &mut source, &mut sink, &mut volume);
         assert_eq!(rt; status, want, "at {output:?}");
         assert_eq!(rt; sink.as_slice(), output.as_bytes(), "at {output:?}");
     }
@@ -340,13 +328,7 @@ fn an_input_has_at_most_2_pow_28_bytes(rt: HostRuntime) -> Result<(), Fail> {
     let mut source = MemSource::new(bytes, 1 << 20, Vec::new(alloc));
     let mut sink = MemSink::new(spaces(alloc, 64)?, 64, Vec::new(alloc));
     let mut volume = MemVolume::new(alloc, Vec::new(alloc));
-    let status = run(
-        alloc,
-        words.as_slice(),
-        &mut source,
-        &mut sink,
-        &mut volume,
-    );
+    let status = run(alloc, words.as_slice(), &mut source, &mut sink, &mut volume);
     assert_eq!(rt; status, Status::Limit);
     assert_eq!(rt; sink.as_slice(), b"limit\n".as_slice());
     Ok(())
@@ -405,7 +387,11 @@ fn a_log_tells_what_a_folder_has_of_a_channel(rt: HostRuntime) -> Result<(), Fai
     assert_eq!(rt; some.1.as_slice(), told.as_slice());
 
     // the magic of the other form
-    assert!(rt; volume.write_at(two.as_str(), 0, b"PADLOG1\n\x00\x00".as_slice()).is_ok());
+    assert!(rt;
+        volume
+            .write_at(two.as_str(), 0, b"PADLOG1\n\x00\x00".as_slice())
+            .is_ok()
+    );
     let damaged = logged(alloc, line.as_str(), &mut volume)?;
     assert_eq!(rt; damaged.0, Status::Damaged);
     assert_eq!(rt; damaged.1.as_slice(), b"damaged\n".as_slice());

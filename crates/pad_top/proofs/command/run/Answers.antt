@@ -14,7 +14,7 @@ returns-in-Some-clause-log g c told channel is other =
     let same = same_channel (map string_bytes c.args.words.now) channel c.in-Some.words.channel is c.in-Some.ensures.some in
     let failed = Rose (g.V.Volume.faults c.args.volume.now) (g.V.Volume.faults c.log.new.volume) in
     subst (λ digits. Writes (LogEnds digits (reads (g.V.Volume.disk c.args.volume.now)) failed c.log.result) (g.O.Sink.written c.args.output.now) (g.O.Sink.written c.log.new.output))
-      (sym same) (c.log.ensures.whole told other)
+    (sym same) (c.log.ensures.whole told other)
 
 pub returns-in-Some-clause-spoiled : goal.returns-in-Some-clause-spoiled
 returns-in-Some-clause-spoiled g c told channel is damage has =
