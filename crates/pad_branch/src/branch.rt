@@ -65,7 +65,7 @@ impl<S: UnitStore> Branch<S> {
         alloc: Global,
         name: Name,
         height: u64,
-        text: S,
+        mut text: S,
         interval: u16,
     ) -> Result<Branch<S>, AllocError>
         requires short { length (S.units text) ≤ longest_text }
@@ -73,6 +73,7 @@ impl<S: UnitStore> Branch<S> {
         requires few { height + 1 < 2 ^ 64 }
         ensures { IfOk result (λ branch. branch.branch ≡ record { root = record { name = name; hash = document_hash (S.units text); since = 0; interval = interval }; low = height; undos = []; units = S.units text }) }
     {
+        text.remember(alloc)?;
         let hash = text.hash(alloc)?;
         let root = Tip {
             name,
@@ -133,8 +134,9 @@ impl<S: UnitStore> Branch<S> {
         self.undos.as_slice()
     }
 
-    /// Tests the path from the base to the message with this name and height. Of a path that is not sound it answers the name of
-    /// the first message that is not. The branch stays what it is.
+    /// Tests the path through the root to the message with this name and height, or to the root itself. Of a path that is not sound
+    /// it answers the name of the first message that is not. The branch stays what it is. Each message of that path above the root
+    /// is to be held; where one is not, the answer is a branch that `switch_to` can take, and tells nothing of a path.
     pub fn test_path<L: Ledger>(
         &self,
         alloc: Global,

@@ -98,7 +98,8 @@ fn grow<S: UnitStore, L: Ledger>(
     ) {
         return Ok(None);
     }
-    let text = message.patch.apply_counted(alloc, &at.text, steps)?;
+    let mut text = message.patch.apply_counted(alloc, &at.text, steps)?;
+    text.remember(alloc)?;
     let hash = text.hash(alloc)?;
     let inverse = message.patch.invert_counted(alloc, &at.text, &hash, steps)?;
     let tip = tip_next(message, name, &at.tip, hash);
