@@ -13,21 +13,8 @@ use Rattle.pad_list.proofs.CallerLemmas.{contains_head, contains_more, contains_
 use Rattle.pad_model.proofs.CallerLemmas.{linked_more, linked_unique}
 use Rattle.pad_checkpoint.specs.Links.{link_of, names_of, AreLinks}
 use Rattle.pad_checkpoint.proofs.CallerLemmas.{top_names, links_more, chain_of, path_of}
-
--- the message is on the path
-pub record Passes (m : Message) (p : List Message) : Type 0 where
-  pub above : List Message
-  pub under : List Message
-  pub whole : p ≡ above ++ m ∷ under
-
-pub linked_new : (b : Base) (R : List Message) (m : Message) (p : List Message) → IsLinkedPath b (m ∷ R) p → IsLinkedPath b R p ⊎ Passes m p
-linked_new b R m [] h = inl tt
-linked_new b R m (x ∷ p) h = go (contains_cases m R x h.0.member) (linked_new b R m p h.1)
-  where
-    go : (m ≡ x) ⊎ Contains R x → IsLinkedPath b R p ⊎ Passes m p → IsLinkedPath b R (x ∷ p) ⊎ Passes m (x ∷ p)
-    go (inl e) rest = inr (record { above = []; under = p; whole = ap (λ w. w ∷ p) (sym e) })
-    go (inr c) (inl l) = inl (record { member = c; not_base = h.0.not_base; parent = h.0.parent }, l)
-    go (inr c) (inr k) = inr (record { above = x ∷ k.above; under = k.under; whole = ap (λ w. x ∷ w) k.whole })
+-- a path with a message on it, and what is new with that message
+pub use Rattle.pad_branch.proofs.CallerLemmas.{Passes, linked_new}
 
 pub on_path : (b : Base) (R p : List Message) (x : Message) → IsLinkedPath b R p → Contains p x → Contains R x
 on_path b R [] x h c = absurd (contains_none x c)

@@ -27,7 +27,8 @@ use Rattle.pad_chain.specs.Tie.{IsChosen, StandsFor}
 use Rattle.pad_chain.specs.Inside.Tables.{IsPut}
 use Rattle.pad_chain.proofs.Coming.{Passes, linked_new, more_path, after, not_on}
 use Rattle.pad_chain.proofs.Put.{held_none, put_keeps, put_itself, put_marks}
-use Rattle.pad_chain.proofs.Joining.{short_path, linked_on, join_every, join_each}
+use Rattle.pad_chain.proofs.Joining.{linked_on, join_every, join_each}
+use Rattle.pad_chain.proofs.Short.{short_path}
 
 append_none : (q : List Message) → q ++ [] ≡ q
 append_none [] = refl

@@ -11,17 +11,9 @@ use Rattle.pad_list.specs.Number.{NoRepeat}
 use Rattle.pad_list.proofs.CallerLemmas.{contains_cases, contains_none, distinct_short, contains_map, mapped_from}
 use Rattle.pad_model.proofs.CallerLemmas.{linked_unique, linked_below}
 use Rattle.pad_checkpoint.specs.Links.{link_of, names_of, AreLinks}
+use Rattle.pad_chain.proofs.Coming.{on_path}
 
 module _ (b : Base) (R : List Message) (d : NamesDiffer R) (links : List Link) (a : AreLinks b R links) where
-  -- a message on a linked path was received
-  received_on : (p : List Message) (x : Message) → IsLinkedPath b R p → Contains p x → Contains R x
-  received_on [] x h c = absurd (contains_none x c)
-  received_on (y ∷ p) x h c = go (contains_cases y p x c) (received_on p x h.1)
-    where
-      go : (y ≡ x) ⊎ Contains p x → (Contains p x → Contains R x) → Contains R x
-      go (inl e) rest = subst (Contains R) e h.0.member
-      go (inr k) rest = rest k
-
   part : (x : Message) (p : List Message) → Contains p x → (u : List Message) × (v : List Message) × (p ≡ u ++ x ∷ v)
   part x [] c = absurd (contains_none x c)
   part x (y ∷ p) c = go (contains_cases y p x c) (part x p)
@@ -40,7 +32,7 @@ module _ (b : Base) (R : List Message) (d : NamesDiffer R) (links : List Link) (
           omega (arith, ap length same, ap length e, length-append u (x ∷ v))
 
       again : (y : Message) × Contains p y × (name_of y ≡ name_of x) → ⊥
-      again (y, c, e) = twice (part x p (subst (Contains p) (d y x (received_on p y h.1 c) h.0.member e) c))
+      again (y, c, e) = twice (part x p (subst (Contains p) (d y x (on_path b R p y h.1 c) h.0.member e) c))
 
   named_in : (p : List Message) → IsLinkedPath b R p → (n : Name) → Contains (names_of p) n → Contains (map (λ (l : Link). l.name) links) n
   named_in [] h n c = absurd (contains_none n c)

@@ -1,15 +1,14 @@
 -- A path won: what the chain stands for then, before and after its root rises.
-use Rattle.std.proofs.Common.{◌≡◌, List, [], ◌∷◌, ◌++◌, drop, Bool, true, false, refl, sym, ap, ◌∙◌, subst, append_assoc, true≢false}
-use Rattle.std.specs.Prelude.{if◌then◌else◌}
+use Rattle.std.proofs.Common.{◌≡◌, List, [], ◌∷◌, ◌++◌, Bool, true, false, refl, sym, ap, ◌∙◌, subst, append_assoc, true≢false}
 use Rattle.pad_text.specs.declared.name.Name.{Name}
 use Rattle.pad_message.specs.declared.message.Message.{Message}
 use Rattle.pad_message.specs.Message.{name_of}
-use Rattle.pad_message.specs.Kind.{is_checkpoint}
 use Rattle.pad_list.specs.Number.{IsNumberOf}
 use Rattle.pad_model.specs.declared.base.Base.{Base}
 use Rattle.pad_model.specs.Path.{last_name, IsLinkedPath}
-use Rattle.pad_model.specs.Choice.{to_checkpoint, cut, RunsThrough, Choice, IsBestThrough, Overtakes}
+use Rattle.pad_model.specs.Choice.{RunsThrough, Choice, IsBestThrough, Overtakes}
 use Rattle.pad_checkpoint.specs.Laws.{RootsRiseToCutsAbove}
+use Rattle.pad_checkpoint.proofs.CallerLemmas.{ends_cut}
 use Rattle.pad_branch.specs.Pathless.{KnowsPathless, AreFound}
 use Rattle.pad_graph.specs.Chain.{Link}
 use Rattle.pad_graph.specs.State as graph
@@ -39,25 +38,6 @@ module _ (b : Base) (R root : List Message) (f g : Name → Bool) (sub : (q : Na
     each = h.each;
     marked = λ q x p c is linked t. subst (λ n. g n ≡ true) is (back x p linked t (subst (λ n. f n ≡ true) (sym is) (h.marked q x p c is linked t)));
   }
-
--- a path ends in its cut
-ends : (p : List Message) → (w : List Message) × (p ≡ w ++ to_checkpoint p)
-ends [] = ([], refl)
-ends (m ∷ p) = go (is_checkpoint m.kind) (ends p)
-  where
-    go : (t : Bool) → (w : List Message) × (p ≡ w ++ to_checkpoint p) → (w : List Message) × (m ∷ p ≡ w ++ (if t then m ∷ p else to_checkpoint p))
-    go true e = ([], refl)
-    go false (w, e) = (m ∷ w, ap (λ q. m ∷ q) e)
-
-ends_drop : (p : List Message) → (w : List Message) × (p ≡ w ++ drop 1 p)
-ends_drop [] = ([], refl)
-ends_drop (m ∷ p) = (m ∷ [], refl)
-
-pub ends_cut : (p : List Message) → (w : List Message) × (p ≡ w ++ cut p)
-ends_cut p = go (ends p) (ends_drop (to_checkpoint p)) (ends (drop 1 (to_checkpoint p)))
-  where
-    go : (w : List Message) × (p ≡ w ++ to_checkpoint p) → (w : List Message) × (to_checkpoint p ≡ w ++ drop 1 (to_checkpoint p)) → (w : List Message) × (drop 1 (to_checkpoint p) ≡ w ++ cut p) → (w : List Message) × (p ≡ w ++ cut p)
-    go (u, e) (v, f) (w, g) = (u ++ (v ++ w), e ∙ ap (λ q. u ++ q) (f ∙ ap (λ q. v ++ q) g ∙ sym (append_assoc v w (cut p))) ∙ sym (append_assoc u (v ++ w) (cut p)))
 
 pub next_root : RootsRiseToCutsAbove → (whole : Bool) (root path : List Message) → root_next whole root (path ++ root) ≡ rising whole path ++ root
 next_root law true root path = refl

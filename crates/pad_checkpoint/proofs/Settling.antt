@@ -45,7 +45,7 @@ ends_drop : (p : List Message) → (w : List Message) × (p ≡ w ++ drop 1 p)
 ends_drop [] = ([], refl)
 ends_drop (m ∷ p) = (m ∷ [], refl)
 
-ends_cut : (p : List Message) → (w : List Message) × (p ≡ w ++ cut p)
+pub ends_cut : (p : List Message) → (w : List Message) × (p ≡ w ++ cut p)
 ends_cut p = go (ends p) (ends_drop (to_checkpoint p)) (ends (drop 1 (to_checkpoint p)))
   where
     go : (w : List Message) × (p ≡ w ++ to_checkpoint p) → (w : List Message) × (to_checkpoint p ≡ w ++ drop 1 (to_checkpoint p)) → (w : List Message) × (drop 1 (to_checkpoint p) ≡ w ++ cut p) → (w : List Message) × (p ≡ w ++ cut p)
