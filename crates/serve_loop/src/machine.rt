@@ -1,4 +1,4 @@
-ghost use Rattle.std.specs.Prelude.{◌≡◌, List, ℕ, IfOk, OnErr};
+ghost use Rattle.std.specs.Prelude.{◌≡◌, List, ℕ, IfOk, OnOk, OnErr};
 ghost use Rattle.serve_loop.specs.Connected.{ClosesAlone};
 ghost use Rattle.serve_loop.specs.Hangs.{HangsBehind};
 ghost use Rattle.serve_loop.specs.declared.event.Event.{Event};
@@ -22,6 +22,9 @@ pub trait Machine<W> {
     /// The machine and its world are in this state.
     ghost stands: { Self → W → State → Type 0 };
 
+    /// What a step needs of machine and world, whether the world tells or not.
+    ghost ready: { Self → W → Type 0 };
+
     /// What a step that wanted memory leaves: from a state, at a moment, by an event, this world. The machine may only be dropped then.
     ghost breaks: { State → ℕ → Event → W → Type 0 };
 
@@ -40,6 +43,8 @@ pub trait Machine<W> {
         moment: u64,
         event: Event,
     ) -> Result<Outs, AllocError>
+        requires { ready self.old world.old }
+        ensures ready { OnOk result (ready self.new world.new) }
         ensures step { tells → (state : State) → stands self.old world.old state → IfOk result (λ outs.
             (next : State) × Step state moment event outs next × stands self.new world.new next) }
         ensures broken { tells → (state : State) → stands self.old world.old state → OnErr result (breaks state moment event world.new) }

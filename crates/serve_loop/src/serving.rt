@@ -34,6 +34,8 @@ fn take_event<P: Port, W, M: Machine<W>>(
     moment: u64,
     event: PortEvent,
 ) -> Result<(), LinkRefused>
+    requires { M.ready machine.old world.old }
+    ensures ready { OnOk result (M.ready machine.new world.new) }
     ensures taken { P.tells → M.tells → (state : M.State) → M.stands machine.old world.old state → OnOk result (IsTaken M.Step (M.stands machine.new world.new) moment state event (P.sent port.old) (P.sent port.new) (P.failed port.old) (P.failed port.new)) }
     ensures part { P.tells → M.tells → (state : M.State) → M.stands machine.old world.old state → OnErr result (IsTakenInPart M.Step (M.stands machine.new world.new) (λ state moment event. M.breaks state moment event world.new) moment state event (P.sent port.old) (P.sent port.new) (P.failed port.old) (P.failed port.new)) }
     ensures events { P.tells → P.events port.new ≡ P.events port.old }
@@ -64,6 +66,8 @@ pub fn serve<P: Port, W, M: Machine<W>, C: Clock>(
     clock: &mut C,
     turns: u64,
 ) -> Result<u64, LinkRefused>
+    requires { M.ready machine.old world.old }
+
     // Where port and world tell: what went out is that of a run of the machine over the events that were given.
     ensures served { P.tells → M.tells → (state : M.State) → M.stands machine.old world.old state → IfOk result (λ made. IsServed M.Step (M.stands machine.new world.new) state made C.tells (C.coming clock.old) (P.events port.old) (P.events port.new) (P.sent port.old) (P.sent port.new) (P.failed port.old) (P.failed port.new)) }
     ensures stopped { P.tells → M.tells → (state : M.State) → M.stands machine.old world.old state → OnErr result (IsStopped M.Step (M.stands machine.new world.new) (λ state moment event. M.breaks state moment event world.new) state (P.events port.old) (P.events port.new) (P.sent port.old) (P.sent port.new) (P.failed port.old) (P.failed port.new)) }

@@ -21,6 +21,8 @@ impl Machine<u64> for Echo {
 
     ghost stands = { λ echo world state. Unit {0} };
 
+    ghost ready = { λ echo world. Unit {0} };
+
     ghost breaks = { λ state moment event world. Unit {0} };
 
     ghost leaves = { λ before now. before ≤ now };

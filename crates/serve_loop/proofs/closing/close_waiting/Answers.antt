@@ -11,6 +11,7 @@ use Rattle.serve_loop.proofs.closing.close_waiting.Goals as goal
 pub closings-init : goal.closings-init
 closings-init g c = let P = g.P.Port in let M = g.M.Machine in record {
   closing = λ port machine state stands. closing_none M.Step (M.stands c.args.machine.now c.args.world.now) c.args.moment state c.args.waiting.items (P.sent c.args.port.now) (P.failed c.args.port.now) stands;
+  ready = c.requires;
   events = λ port. refl;
   counts = (refl, refl);
   leaves = g.met.M.Machine.leaves_itself c.args.world.now;
@@ -68,6 +69,7 @@ closings-preserved g c = let P = g.P.Port in let M = g.M.Machine in record {
       closing_one M.Step (M.stands c.closings.machine c.closings.world) (M.stands c.step.new.self c.step.new.world) c.args.moment state step.0 c.args.waiting.items rest after connection c.in-Ok.outs
       (P.sent c.args.port.now) (P.sent c.closings.port) (P.sent c.deliver.new.port) (P.failed c.args.port.now) (P.failed c.closings.port) (P.failed c.deliver.new.port)
       here step.1 step.2 (subst R c.as_slice.ensures (c.in_ok-deliver.ensures.delivered port));
+  ready = c.in-Ok.ensures.ready;
   events = λ port. c.deliver.ensures.events port ∙ c.closings.invariant.events port;
   counts = (c.deliver.ensures.counts.0 ∙ c.closings.invariant.counts.0, c.deliver.ensures.counts.1 ∙ c.closings.invariant.counts.1);
   leaves = g.met.M.Machine.leaves_on c.args.world.now c.closings.world c.step.new.world c.closings.invariant.leaves c.step.ensures.leaves;

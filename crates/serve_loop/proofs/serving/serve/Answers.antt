@@ -11,6 +11,7 @@ pub loop-turn-init : goal.loop-turn-init
 loop-turn-init g c = record {
   served = λ port machine state stands.
       served_none g.M.Machine.Step (g.M.Machine.stands c.args.machine.now c.args.world.now) state g.C.Clock.tells (g.C.Clock.coming c.args.clock.now) (g.P.Port.events c.args.port.now) (g.P.Port.sent c.args.port.now) (g.P.Port.failed c.args.port.now) stands;
+  ready = c.requires;
   coming = λ told. refl;
   turns = λ port. ([], sym (append-nil (g.P.Port.events c.args.port.now)), refl, λ place got. (cc));
   counts = (refl, refl);
@@ -61,6 +62,7 @@ loop-turn-preserved g c = let P = g.P.Port in record {
       so_far (c.take_event.ensures.events port ∙ c.in_ok-event.ensures.events port) same.0 same.1
       (c.in_ok-take_event.ensures.taken port machine so_far.next so_far.stands)
       (λ told. c.now-moment.ensures.now told ∙ ap next_moment (c.loop-turn.invariant.coming told));
+  ready = c.in_ok-take_event.ensures.ready;
   coming = λ told. c.now-moment.ensures.coming told ∙ ap moments_after (c.loop-turn.invariant.coming told) ∙ sym (coming_more c.loop-turn.turn (g.C.Clock.coming c.args.clock.now));
   turns = λ port.
       let so_far = c.loop-turn.invariant.turns port in let event = c.in_ok-event.event in (
