@@ -13,6 +13,6 @@ invariant_of-result g c =
     let short = short_after c.args.message.now.patch (g.S.UnitStore.units c.args.at.now.text) (c.is_sound.ensures.sound.0 c.if-not-is_sound.false).fits in
     record {
       hashed = c.tip_next-tip.ensures.hash ∙ c.in_ok-hash.ensures;
-      short = subst (λ units. length units ≤ longest_text) (sym c.in_ok-text.ensures.after) short;
+      short = subst (λ units. length units ≤ longest_text) (sym (c.remember.ensures ∙ c.in_ok-text.ensures.after)) short;
       timed = c.tip_next-tip.ensures.timed;
     }
