@@ -1,5 +1,6 @@
 -- What a connection sends.
 use Rattle.std.specs.Prelude.{◌≡◌, ℕ, List, drop, None}
+use Rattle.ws_outbox.specs.Outbox.{Outgoing}
 use Rattle.websocket.specs.Connection.{whole_header}
 use Rattle.websocket.specs.Frame.{encode_frame}
 use Rattle.websocket.specs.declared.protocol.frame.coding.Data.TheVariants.{Text}
@@ -12,3 +13,7 @@ text_frame text = encode_frame (whole_header (Data Text) None) text
 -- of these bytes those are left that did not go out: some from the front did
 abbrev pub IsLeft : (bytes left : List ℕ) → Type 0
 IsLeft bytes left = (count : ℕ) × (left ≡ drop count bytes)
+
+-- the turn of the last look stays as it was, and so does whether no more is taken
+abbrev pub KeepsRefusal : (old new : Outgoing) → Type 0
+KeepsRefusal old new = (new.turn ≡ old.turn) × (new.refuses ≡ old.refuses)

@@ -1,6 +1,6 @@
 ghost use Rattle.std.specs.Prelude.{◌≡◌, ◌+◌, ◌≤◌, ◌⊎◌, ◌++◌, [], IsErr, IsErrOf, IsTrue, OnOk};
 ghost use Rattle.pad_edge.specs.declared.link_refused.LinkRefused.TheVariants as refused;
-ghost use Rattle.ws_connection.specs.Sending.{text_frame, IsLeft};
+ghost use Rattle.ws_connection.specs.Sending.{text_frame, IsLeft, KeepsRefusal};
 ghost use Rattle.ws_outbox.specs.Outbox.{to_send, unsent, judged};
 
 use crate::frames::{close_frame, text_frame};
@@ -134,6 +134,8 @@ impl Connection {
         ensures slow { IsTrue (judged turn self.old).refuses → IsErrOf result refused.Failed }
         ensures refused { IsErrOf result refused.Failed → IsTrue self.new.refuses }
         ensures failed { IsErr result → (to_send self.new ≡ to_send self.old) ⊎ (to_send self.new ≡ []) }
+        ensures look { OnOk result (KeepsRefusal (judged turn self.old) self.new) }
+        ensures kept { KeepsRefusal (judged turn self.old) self.new ⊎ IsTrue self.new.refuses }
     {
         self.outbox.judge(turn);
         if self.outbox.refuses() || !matches!(self.stage, Stage::Open) {
@@ -155,8 +157,9 @@ impl Connection {
     fn send_now(&mut self, frame: Vec<u8>, room: usize) -> Result<(), LinkRefused>
         ensures room { unsent self.new ≤ unsent self.old + room }
         ensures sent { OnOk result (IsLeft (to_send self.old ++ frame.items) (to_send self.new)) }
-        ensures refused { IsErrOf result refused.Failed → IsTrue self.new.refuses }
+        ensures refused { IsErr result → IsTrue self.new.refuses }
         ensures failed { IsErr result → (to_send self.new ≡ to_send self.old) ⊎ (to_send self.new ≡ []) }
+        ensures kept { OnOk result (KeepsRefusal self.old self.new) }
     {
         let before = self.outbox.unsent();
         let all = self.outbox.room();
@@ -180,6 +183,7 @@ impl Connection {
         ensures sent { OnOk result (to_send self.new ≡ to_send self.old ++ frame.items) }
         ensures failed { IsErr result → to_send self.new ≡ to_send self.old }
         ensures same { IsErr result → unsent self.new ≡ unsent self.old }
+        ensures kept { KeepsRefusal self.old self.new }
     {
         if frame.is_empty() {
             return Ok(());
@@ -203,7 +207,8 @@ impl Connection {
 
     /// Hangs up: what waits goes out, and then a close. It answers whether the connection was not hung up before.
     pub fn hang_up(&mut self, room: usize) -> bool
-        ensures { unsent self.new ≤ unsent self.old + room }
+        ensures room { unsent self.new ≤ unsent self.old + room }
+        ensures kept { KeepsRefusal self.old self.new }
     {
         match self.stage {
             Stage::Open => {
@@ -217,7 +222,8 @@ impl Connection {
 
     /// Nothing is taken any more. A close with this code is put behind what waits, if there are memory and room for it.
     fn close(&mut self, code: CloseCode, room: usize)
-        ensures { unsent self.new ≤ unsent self.old + room }
+        ensures room { unsent self.new ≤ unsent self.old + room }
+        ensures kept { KeepsRefusal self.old self.new }
     {
         self.stage = Stage::Closing;
         if let Some(frame) = close_frame(self.alloc, code) {
@@ -225,11 +231,13 @@ impl Connection {
         }
     }
 
-    /// Writes what waits, and reads at most one frame.
+    /// Writes what waits, and reads at most one frame. If more than `UNSENT_BYTES` waited before, and this is the first look in this turn,
+    /// each later send is refused.
     pub fn take_turn(&mut self, turn: u64, room: usize) -> Heard
-        ensures { unsent self.new ≤ unsent self.old + room }
+        ensures room { unsent self.new ≤ unsent self.old + room }
+        ensures look { KeepsRefusal (judged turn self.old) self.new }
     {
-        self.outbox.judge(turn);
+        self.outbox.judge(turn); // before anything goes out
         match self.stage {
             Stage::Open => self.take_open_turn(room),
             Stage::Closing => self.send_rest(),
@@ -240,7 +248,8 @@ impl Connection {
 
     /// Writes what waits, and reads, unless a reply waits.
     fn take_open_turn(&mut self, room: usize) -> Heard
-        ensures { unsent self.new ≤ unsent self.old + room }
+        ensures room { unsent self.new ≤ unsent self.old + room }
+        ensures kept { KeepsRefusal self.old self.new }
     {
         if matches!(self.write_some(), Written::Failed) {
             return Heard::Lost;
@@ -258,7 +267,8 @@ impl Connection {
 
     /// Reads a frame.
     fn hear(&mut self, room: usize) -> Heard
-        ensures { unsent self.new ≤ unsent self.old + room }
+        ensures room { unsent self.new ≤ unsent self.old + room }
+        ensures kept { KeepsRefusal self.old self.new }
     {
         for _ in 0..READS_A_TURN {
             let mut reply = Vec::new(self.alloc);
@@ -285,7 +295,8 @@ impl Connection {
 
     /// What a frame is to the port. A reply for which there is no room is the connection's loss.
     fn take(&mut self, came: Came, reply: Vec<u8>, room: usize) -> Heard
-        ensures { unsent self.new ≤ unsent self.old + room }
+        ensures room { unsent self.new ≤ unsent self.old + room }
+        ensures kept { KeepsRefusal self.old self.new }
     {
         match came {
             Came::Text(text) => Heard::Text(text),
@@ -315,7 +326,8 @@ impl Connection {
 
     /// Writes what waits, and then tells the other end that nothing more comes.
     fn send_rest(&mut self) -> Heard
-        ensures { unsent self.new ≤ unsent self.old }
+        ensures fewer { unsent self.new ≤ unsent self.old }
+        ensures kept { KeepsRefusal self.old self.new }
     {
         match self.write_some() {
             Written::Blocked => Heard::Blocked,
@@ -360,6 +372,7 @@ impl Connection {
     fn write_some(&mut self) -> Written
         ensures left { IsLeft (to_send self.old) (to_send self.new) }
         ensures fewer { unsent self.new ≤ unsent self.old }
+        ensures kept { KeepsRefusal self.old self.new }
     {
         for _ in 0..WRITES_A_TURN {
             match self.write_once() {
@@ -375,6 +388,7 @@ impl Connection {
     fn write_once(&mut self) -> Written
         ensures left { IsLeft (to_send self.old) (to_send self.new) }
         ensures fewer { unsent self.new ≤ unsent self.old }
+        ensures kept { KeepsRefusal self.old self.new }
     {
         self.is_left = false;
         let piece = self.outbox.piece();
