@@ -1,3 +1,4 @@
 pub mod Address
+pub mod Server
 pub mod WsLink
 pub mod WsPort

@@ -1,5 +1,6 @@
 -- What contracts see of a port over TCP.
 use Rattle.std.specs.Prelude.{ℕ, ◌<◌, ◌≤◌, Bool, Option, None, Some, is_some}
+use Rattle.ws_edge.specs.Server.{ServerCounts}
 use Rattle.pad_edge.specs.declared.port_event.PortEvent.{PortEvent}
 use Rattle.pad_edge.specs.declared.port_event.PortEvent.TheVariants as event
 
@@ -12,9 +13,9 @@ pub record PortCounts : Type 0 where
   pub next_number : ℕ
 
 -- the number from which on a server opened no connection, and 0 if there is none yet
-abbrev pub number_of : Option ℕ → ℕ
+abbrev pub number_of : Option ServerCounts → ℕ
 number_of None = 0
-number_of (Some number) = number
+number_of (Some server) = server.next_number
 
 -- a connection is opened under a number that no other one had, numbers rise, and the port does not end
 abbrev pub OpensFresh : PortEvent → (before now : ℕ) → Type 0

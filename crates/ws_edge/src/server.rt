@@ -1,4 +1,5 @@
 ghost use Rattle.std.specs.Prelude.{◌≡◌, ◌+◌, ◌≤◌, ◌<◌, IfOk, IfSome, OnOk, OnErr};
+ghost use Rattle.pad_edge.specs.Count.{counted};
 ghost use Rattle.ws_edge.specs.WsPort.{OpensFresh};
 
 use mio::net::{TcpListener, TcpStream};
@@ -53,7 +54,8 @@ struct Opened {
     is_queued: bool,
 }
 
-/// A listener and its connections, each with a number that no other one had. Contracts see from which number on none was given.
+/// A listener and its connections, each with a number that no other one had. Contracts see from which number on none was given, and how
+/// often `next` was called.
 #[derive(Drop)]
 pub(crate) struct Server {
     alloc: Global,
@@ -78,17 +80,17 @@ pub(crate) struct Server {
 }
 
 impl Model for Server {
-    ghost use Rattle.std.specs.Prelude.{ℕ};
+    ghost use Rattle.ws_edge.specs.Server.{ServerCounts};
 
-    ghost Value = { ℕ };
+    ghost Value = { ServerCounts };
 
-    ghost view = { λ server. server.next_number };
+    ghost view = { λ server. record { next_number = server.next_number; turn = server.turn } };
 }
 
 impl Server {
     /// Listens at an address.
     pub(crate) fn listen(alloc: Global, net: &impl Net, address: SocketAddr) -> io::Result<Server>
-        ensures { IfOk result (λ server. server ≡ 0) }
+        ensures { IfOk result (λ server. server ≡ record { next_number = 0; turn = 0 }) }
     {
         let poll = Poll::new(net)?;
         let mut listener = TcpListener::bind(net, address)?;
@@ -115,8 +117,9 @@ impl Server {
     /// The next event. `Idle` comes after a wait in which nothing came, or after many turns without an event.
     #[tactic(auto, using(crate::proofs::Numbers::fresh_since))]
     pub(crate) fn next(&mut self) -> io::Result<PortEvent>
-        ensures fresh { IfOk result (λ event. OpensFresh event self.old self.new) }
-        ensures later { self.old ≤ self.new }
+        ensures fresh { IfOk result (λ event. OpensFresh event self.old.next_number self.new.next_number) }
+        ensures later { self.old.next_number ≤ self.new.next_number }
+        ensures turn { self.new.turn ≡ counted self.old.turn }
     {
         self.turn = self.turn.saturating_add(1);
         for _ in 0..MOST_TURNS {
@@ -170,7 +173,8 @@ impl Server {
 
     /// Accepts connections that wait, some at a time.
     fn accept_some(&mut self)
-        ensures { self.old ≤ self.new }
+        ensures later { self.old.next_number ≤ self.new.next_number }
+        ensures turn { self.new.turn ≡ self.old.turn }
     {
         for _ in 0..MOST_ACCEPTS {
             if !self.may_accept {
@@ -195,7 +199,8 @@ impl Server {
 
     /// Begins the handshake of a connection.
     fn take_in(&mut self, mut stream: TcpStream) -> io::Result<()>
-        ensures { self.old ≤ self.new }
+        ensures later { self.old.next_number ≤ self.new.next_number }
+        ensures turn { self.new.turn ≡ self.old.turn }
     {
         if self.handshakes.len() >= MOST_HANDSHAKES {
             let _ = self.handshakes.pop_first();
@@ -221,8 +226,8 @@ impl Server {
 
     /// A number that none had before.
     fn fresh_number(&mut self) -> io::Result<u64>
-        ensures fresh { IfOk result (λ number. number ≡ self.old) }
-        ensures rises { OnOk result (self.new ≡ self.old + 1) }
+        ensures fresh { IfOk result (λ number. number ≡ self.old.next_number) }
+        ensures rises { OnOk result (self.new ≡ record self.old { next_number = self.old.next_number + 1 }) }
         ensures same { OnErr result (self.new ≡ self.old) }
     {
         let number = self.next_number;
@@ -273,8 +278,9 @@ impl Server {
 
     /// Gives the first of those that are ready its turn.
     fn serve_one(&mut self) -> Option<PortEvent>
-        ensures fresh { IfSome result (λ event. OpensFresh event self.old self.new) }
-        ensures later { self.old ≤ self.new }
+        ensures fresh { IfSome result (λ event. OpensFresh event self.old.next_number self.new.next_number) }
+        ensures later { self.old.next_number ≤ self.new.next_number }
+        ensures turn { self.new.turn ≡ self.old.turn }
     {
         let number = self.ready.pop_front()?;
         match self.handshakes.remove(&number) {
@@ -285,8 +291,9 @@ impl Server {
 
     /// Goes on with a handshake.
     fn shake(&mut self, number: u64, begun: Begun) -> Option<PortEvent>
-        ensures fresh { IfSome result (λ event. OpensFresh event self.old self.new) }
-        ensures later { self.old ≤ self.new }
+        ensures fresh { IfSome result (λ event. OpensFresh event self.old.next_number self.new.next_number) }
+        ensures later { self.old.next_number ≤ self.new.next_number }
+        ensures turn { self.new.turn ≡ self.old.turn }
     {
         match begun.handshake.go_on() {
             Shaken::Done(connection) => match self.open(connection) {
@@ -325,8 +332,9 @@ impl Server {
 
     /// Opens a connection whose handshake is done, under a number of its own.
     fn open(&mut self, mut connection: Connection) -> io::Result<u64>
-        ensures fresh { IfOk result (λ number. (self.old ≤ number) × (number < self.new)) }
-        ensures later { self.old ≤ self.new }
+        ensures fresh { IfOk result (λ number. (self.old.next_number ≤ number) × (number < self.new.next_number)) }
+        ensures later { self.old.next_number ≤ self.new.next_number }
+        ensures turn { self.new.turn ≡ self.old.turn }
     {
         let number = self.fresh_number()?;
         connection.watch(self.poll.registry(), Token(number as usize))?;
@@ -346,8 +354,9 @@ impl Server {
 
     /// Gives a connection its turn.
     fn serve_connection(&mut self, number: u64) -> Option<PortEvent>
-        ensures fresh { IfSome result (λ event. OpensFresh event self.old self.new) }
-        ensures later { self.old ≤ self.new }
+        ensures fresh { IfSome result (λ event. OpensFresh event self.old.next_number self.new.next_number) }
+        ensures later { self.old.next_number ≤ self.new.next_number }
+        ensures turn { self.new.turn ≡ self.old.turn }
     {
         match self.take_turn(number, true)? {
             Heard::Text(text) => Some(PortEvent::Text(number, text)),
