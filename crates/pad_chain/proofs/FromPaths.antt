@@ -1,4 +1,4 @@
--- How the best chain comes from a path through the root: what a test of that path says.
+-- How the chosen path comes from a path through the root: what a test of that path says.
 use Rattle.std.proofs.Common.{◌≡◌, ℕ, zero, suc, ◌-◌, ◌≤◌, List, [], ◌∷◌, ◌++◌, length, take, drop, map, reverse, Option, option_map, Some, refl, sym, ap, ap₂, ◌∙◌, subst, append_assoc, take-append-drop, length-append, length-drop, arith}
 use Rattle.std.specs.List.{cons_option}
 use Rattle.std.proofs.lemmas.List.{length-reverse, reverse-append, map-append}

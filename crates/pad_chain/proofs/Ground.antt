@@ -1,10 +1,17 @@
 -- What a message does to a chain, whatever the chain stands for.
-use Rattle.std.proofs.Common.{◌≡◌, ℕ, ◌+◌, ◌≤◌, ◌⊎◌, inl, inr, List, [], ◌∷◌, ◌++◌, length, map, reverse, Contains, Option, Some, Result, Ok, Err, IfOk, IfErr, OnOk, OnErr, refl, sym, ap, ap₂, ◌∙◌, subst, arith, length-append}
+use Rattle.std.proofs.Common.{◌≡◌, ℕ, ◌+◌, ◌≤◌, ◌⊎◌, inl, inr, List, [], ◌∷◌, ◌++◌, length, map, reverse, Contains, Bool, true, false, cond, is_eq, Option, Some, None, Result, Ok, Err, IfOk, IfErr, OnOk, OnErr, refl, sym, ap, ap₂, ◌∙◌, subst, arith, length-append}
 use Rattle.std.proofs.lemmas.List.{length-map, length-reverse, reverse-append, map-append}
+use Rattle.std.specs.Map.{lookup}
+use Rattle.std.specs.BTreeMap.{is_at}
 use Rattle.pad_text.specs.declared.name.Name.{Name}
 use Rattle.pad_message.specs.declared.message.Message.{Message}
 use Rattle.pad_message.specs.Message.{name_of}
+use Rattle.pad_graph.specs.declared.added.Added.{Added}
+use Rattle.pad_graph.specs.Added.{links_after}
 use Rattle.pad_graph.specs.Chain.{Link}
+use Rattle.pad_graph.specs.State as graph
+use Rattle.pad_graph.specs.State.{name_cmp}
+use Rattle.pad_graph.specs.Graph.{Stands}
 use Rattle.pad_list.proofs.CallerLemmas.{contains_head, contains_more, contains_map, mapped_from, distinct_short, one_number}
 use Rattle.pad_model.specs.declared.base.Base.{Base}
 use Rattle.pad_model.specs.Count.{IsKnown}
@@ -16,13 +23,15 @@ use Rattle.pad_branch.specs.Held.{messages_at}
 use Rattle.pad_branch.specs.Move.{move_on}
 use Rattle.pad_branch.specs.Branch.{LeadsTo}
 use Rattle.pad_chain.specs.declared.moved.Moved.{Moved}
-use Rattle.pad_chain.specs.State.{View}
+use Rattle.pad_chain.specs.State.{View, held_of}
 use Rattle.pad_chain.specs.Leads.{Leads}
 use Rattle.pad_chain.specs.Knows.{Knows}
-use Rattle.pad_chain.specs.Receive.{KeepsBranch}
-use Rattle.pad_chain.specs.Inside.Receiving.{MovesNothing}
+use Rattle.pad_chain.specs.Receive.{KeepsBranch, KeepsHeld, KeepsStands}
+use Rattle.pad_chain.specs.Inside.Receiving.{MovesNothing, UndoesName}
+use Rattle.pad_chain.specs.Inside.Tables.{IsPut, IsSame}
 use Rattle.pad_chain.proofs.FromPaths.{twice_reversed, held_message}
-use Rattle.pad_chain.proofs.Knowing.{number_known, known_cases}
+use Rattle.pad_chain.proofs.Names.{name_same}
+use Rattle.pad_chain.proofs.Knowing.{Tells, number_known, known_cases}
 
 -- ---- of a call's result
 
@@ -72,6 +81,37 @@ branch_stays v = record { pruning = refl; branch = refl; found = refl; whole = r
 
 pub branch_on : (old mid new : View) → KeepsBranch mid new → mid.pruning ≡ old.pruning → mid.branch.branch ≡ old.branch.branch → mid.found ≡ old.found → mid.whole ≡ old.whole → KeepsBranch old new
 branch_on old mid new h pruning branch found whole = record { pruning = h.pruning ∙ pruning; branch = h.branch ∙ branch; found = h.found ∙ found; whole = h.whole ∙ whole }
+
+pub held_stays : (v : View) (name : Name) → KeepsHeld v v name
+held_stays v name other = inl refl
+
+pub held_same : (old new : View) (name : Name) → IsSame (held_of old) (held_of new) → KeepsHeld old new name
+held_same old new name same other = inl (same other)
+
+-- what is held at the name was put there, and taken out
+pub held_again : (old mid stopped new : View) (name : Name) (held : Held) → IsPut (held_of old) (held_of mid) name (Some held) → stopped.messages ≡ mid.messages → IsPut (held_of stopped) (held_of new) name None → KeepsHeld old new name
+held_again old mid stopped new name held put messages removed other = go (is_eq (name_cmp name other)) refl
+  where
+    is_now : (t : Bool) → is_eq (name_cmp name other) ≡ t → held_of new other ≡ cond t None (cond t (Some held) (held_of old other))
+    is_now t e =
+        removed other ∙ ap (λ (entries : List (Name × Held)). cond (is_eq (name_cmp name other)) None (lookup (is_at (name_cmp other)) entries)) messages
+        ∙ ap (cond (is_eq (name_cmp name other)) None) (put other) ∙ ap (λ u. cond u None (cond u (Some held) (held_of old other))) e
+
+    go : (t : Bool) → is_eq (name_cmp name other) ≡ t → (held_of new other ≡ held_of old other) ⊎ ((other ≡ name) × (held_of new other ≡ None))
+    go true e = inr (sym (name_same name other e), is_now true e)
+    go false e = inl (is_now false e)
+
+pub stands_stay : (v : View) → KeepsStands v v
+stands_stay v base links root h = h
+
+pub stands_same : (old new : View) → graph.state_of new.graph ≡ graph.state_of old.graph → KeepsStands old new
+stands_same old new same base links root h = subst (λ (s : graph.State). Stands s base links root) (sym same) h
+
+-- the message was added, and taken back
+pub stands_again : (old mid new : View) (name : Name) (m : Message) (added : Added) → ((links : List Link) → links_after (record { name = name; parent = m.parent }) links added ≡ record { name = name; parent = m.parent } ∷ links)
+    → Tells old mid name m added → UndoesName mid new → KeepsStands old new
+stands_again old mid new name m added one told undone base links root h =
+    undone base (record { name = name; parent = m.parent }) links root (subst (λ (ls : List Link). Stands (graph.state_of mid.graph) base ls root) (one links) (told base links root h).1)
 
 -- ---- how many names are known
 

@@ -37,7 +37,7 @@ abbrev pub NoneTo : View → Name → Type 0
 NoneTo chain from = (base : Base) (received : List Message) (choice : Choice) → StandsFor chain base received choice
     → (path : List Message) → ¬ (EndsIn base received choice.root path from)
 
--- how the best chain comes from it
+-- how the chosen path comes from it
 abbrev pub ComesFrom : View → Name → List ℕ → Moved → Type 0
 ComesFrom chain from units moved = (base : Base) (received : List Message) (choice : Choice) → StandsFor chain base received choice
     → (path : List Message) × EndsIn base received choice.root path from × (units ≡ text base path) × IsMoved base path choice.chosen moved × Leads (moved.reverted ++ moved.applied) units chain.branch.branch.units

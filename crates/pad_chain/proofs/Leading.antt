@@ -120,7 +120,7 @@ undos_sound : (b : Base) (below above : List Message) (us : List Undo) → AreUn
 undos_sound b below [] us h s = s
 undos_sound b below (m ∷ above) us (undo, rest, is, takes, more) s = (takes.sound, undos_sound b below above rest more s)
 
--- ---- from the best chain to a path that won
+-- ---- from the chosen path to a path that won
 
 -- whatever both stand for
 pub switch_leads : (branch : State) (table : Name → Option Held) (keep : ℕ) (new : List Undo) (tip : Tip) (after : List ℕ) (moved : Moved) → Rewinds branch.root branch.low (reverse branch.undos) branch.units → LeadsTo table (text_below branch keep) tip (reverse new) after
@@ -131,7 +131,7 @@ switch_leads branch table keep new tip after moved rewinds leads back on =
     (leads_back branch.root branch.low (take (length branch.undos - keep) (reverse branch.undos)) (drop (length branch.undos - keep) (reverse branch.undos)) branch.units (subst (λ us. Rewinds branch.root branch.low us branch.units) (sym (take-append-drop (length branch.undos - keep) (reverse branch.undos))) rewinds))
     (leads_on table (text_below branch keep) tip (reverse new) after leads))
 
--- ---- from a path that was tested to the best chain
+-- ---- from a path that was tested to the chosen path
 
 module _ (root : Tip) (height : ℕ) (undos : List Undo) (keep : ℕ) (new : List Undo) (units : List ℕ) (rewinds : Rewinds root height (reverse (take keep undos ++ new)) units) where
   pub back_to_fork : Leads (map move_back (reverse new)) units (undone (reverse new) units)

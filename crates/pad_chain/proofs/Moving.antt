@@ -1,4 +1,4 @@
--- What leaves the best chain and what comes onto it, where a path won.
+-- What leaves the chosen path and what comes onto it, where a path won.
 use Rattle.std.proofs.Common.{◌≡◌, ℕ, zero, suc, ◌-◌, List, [], ◌∷◌, ◌++◌, length, take, drop, map, reverse, Option, refl, sym, ap, ap₂, ◌∙◌, append_assoc, take-append-drop}
 use Rattle.std.proofs.lemmas.List.{length-reverse}
 use Rattle.pad_text.specs.declared.name.Name.{Name}

@@ -8,7 +8,7 @@ use Rattle.pad_checkpoint.specs.declared.pruning.Pruning.{Pruning}
 use Rattle.pad_branch.specs.declared.held.Held.{Held}
 use Rattle.pad_branch.specs.Branch as branch
 
--- the graph of names; the root and what overtook; the messages that are kept or wait, by name; the best branch above the root;
+-- the graph of names; the root and what overtook; the messages that are kept or wait, by name; the chosen path above the root;
 -- the names of the messages that were found not to be sound, the last first; whether it never truncates
 pub record View : Type 0 where
   pub graph : Tables

@@ -1,4 +1,4 @@
-//! The chain: what came, and the best of it.
+//! The chain: what came, and what is chosen of it.
 
 mod receiving;
 
@@ -43,7 +43,7 @@ use std::alloc::{AllocError, Global};
 use std::collections::BTreeMap;
 use std::marker::Model;
 
-/// A chain of messages, with one text: that at the end of the best chain.
+/// A chain of messages, with one text: that at the end of the chosen path.
 #[derive(Drop)]
 pub struct Chain<S: UnitStore> {
     graph: Graph,
@@ -189,7 +189,7 @@ impl<S: UnitStore> Chain<S> {
         })
     }
 
-    /// Where the best chain ends.
+    /// Where the chosen path ends.
     pub fn best(&self) -> Place
         ensures is { result ≡ record { name = (tip_of self.now.branch.branch).name; height = height_of self.now.branch.branch } }
         ensures stands { (base : Base) (received : List Message) (choice : Choice) → StandsFor self.now base received choice → result ≡ place_of base choice.chosen }
@@ -208,7 +208,7 @@ impl<S: UnitStore> Chain<S> {
         self.pruning.root()
     }
 
-    /// Lends the text after the best chain.
+    /// Lends the text after the chosen path.
     pub fn text(&self) -> &S
         ensures is { S.units result.now ≡ self.now.branch.branch.units }
         ensures short { length (S.units result.now) ≤ longest_text }
@@ -218,7 +218,7 @@ impl<S: UnitStore> Chain<S> {
         self.branch.text()
     }
 
-    /// The document hash of the text after the best chain.
+    /// The document hash of the text after the chosen path.
     pub fn hash(&self) -> Name
         ensures is { result ≡ document_hash self.now.branch.branch.units }
         ensures stands { (base : Base) (received : List Message) (choice : Choice) → StandsFor self.now base received choice → result ≡ document_hash (text base choice.chosen) }
@@ -235,7 +235,7 @@ impl<S: UnitStore> Chain<S> {
         self.branch.tip().interval
     }
 
-    /// Whether a checkpoint may be the next message of the best chain.
+    /// Whether a checkpoint may be the next message of the chosen path.
     pub fn due(&self) -> bool
         ensures is { IsTrue result ↔ (((tip_of self.now.branch.branch).since + 1) % (tip_of self.now.branch.branch).interval ≡ 0) }
         ensures stands { (base : Base) (received : List Message) (choice : Choice) → StandsFor self.now base received choice
@@ -271,7 +271,7 @@ impl<S: UnitStore> Chain<S> {
         self.graph.kept()
     }
 
-    /// How many messages overtook the best chain from below the root.
+    /// How many messages overtook the chosen path from below the root.
     pub fn overtaken(&self) -> u64
         ensures is { result ≡ self.now.pruning.overtaken }
         ensures stands { (base : Base) (received : List Message) (choice : Choice) → StandsFor self.now base received choice → result ≡ choice.overtaken }

@@ -1,12 +1,12 @@
-//! A pad's chain: which messages came, which of them is the end of the best chain, and the text there.
+//! A pad's chain: which messages came, which of them is the end of the chosen path, and the text there.
 //!
 //! A chain stands for a base, the list of the messages received and what is chosen of them (`StandsFor`). It keeps one text,
-//! that of the best chain.
+//! that of the chosen path.
 //!
 //! ```rust
 //! let mut chain = Chain::<VecUnits>::new(alloc)?;           // from the first base on
 //! let chain = Chain::<VecUnits>::adopt(alloc, &message)?;   // from a checkpoint on
-//! let moved = chain.receive(alloc, message, &mut steps)?;   // what left the best chain, and what came onto it
+//! let moved = chain.receive(alloc, message, &mut steps)?;   // what left the chosen path, and what came onto it
 //! let (best, text) = (chain.best(), chain.text());
 //! ```
 #![tactic(auto)]

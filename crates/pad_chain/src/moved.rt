@@ -5,7 +5,7 @@ use pad_branch::Move;
 use std::alloc::Global;
 use std::marker::Model;
 
-/// Messages that left the best chain, or that came onto it. Contracts see the list.
+/// Messages that left the chosen path, or that came onto it. Contracts see the list.
 #[derive(Debug, Drop)]
 pub struct Moves {
     items: Vec<Move>,
@@ -40,7 +40,7 @@ impl Moves {
     }
 }
 
-/// How the best chain changed. Both lists are empty where it stayed.
+/// How the chosen path changed. Both lists are empty where it stayed.
 #[derive(Debug, Drop)]
 pub struct Moved {
     /// The messages that left it, the newest first, each with the inverse of its patch.

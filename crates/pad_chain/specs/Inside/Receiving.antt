@@ -102,7 +102,7 @@ Switches now new names found keep come units moved =
 
 -- ---- what a step does, whatever the chain stands for
 
--- nothing left the best chain, and nothing came onto it
+-- nothing left the chosen path, and nothing came onto it
 pub record MovesNothing (moved : Moved) : Type 0 where
   pub left : moved.reverted ≡ []
   pub came : moved.applied ≡ []

@@ -1,4 +1,4 @@
-//! How the best chain comes from another path.
+//! How the chosen path comes from another path.
 
 ghost use Rattle.std.specs.Prelude.{◌≡◌, ◌≤◌, ◌+◌, ◌*◌, ℕ, List, ◌++◌, length, drop, map, reverse, IfOk, IfSome, IsNone};
 ghost use Rattle.std.specs.BTreeMap.{get};
@@ -37,8 +37,8 @@ fn is_marked(messages: &BTreeMap<Name, Held>, name: &Name) -> bool
 }
 
 impl<S: UnitStore> Chain<S> {
-    /// How the best chain comes from the path to the message with this name, or to the base. `reverted` are the messages of that
-    /// path that are not on the best chain, `applied` those of the best chain that are not on that path. None where no path through
+    /// How the chosen path comes from the path to the message with this name, or to the base. `reverted` are the messages of that
+    /// path that are not on the chosen path, `applied` those of the chosen path that are not on that path. None where no path through
     /// the root ends in the name. The chain stays what it is.
     pub fn moves_from<L: Ledger>(
         &self,
@@ -80,7 +80,7 @@ impl<S: UnitStore> Chain<S> {
         Ok(Some(both))
     }
 
-    /// The text of a path that was tested, and how the best chain comes from it.
+    /// The text of a path that was tested, and how the chosen path comes from it.
     fn moves_of(&self, alloc: Global, won: Won<S>) -> Result<(S, Moved), AllocError>
         requires { won.keep ≤ length self.now.branch.branch.undos }
         ensures text { IfOk result (λ both. S.units both.0 ≡ S.units won.text) }

@@ -22,7 +22,7 @@ ghost use Rattle.pad_chain.specs.declared.receive_refused.ReceiveRefused.TheVari
 ghost use Rattle.pad_chain.specs.State.{held_of};
 ghost use Rattle.pad_chain.specs.Tie.{StandsFor};
 ghost use Rattle.pad_chain.specs.Leads.{Leads};
-ghost use Rattle.pad_chain.specs.Receive.{IsReceived, KeepsFound, KeepsBranch, IsUntouched, IsWithin};
+ghost use Rattle.pad_chain.specs.Receive.{IsReceived, KeepsFound, KeepsBranch, KeepsHeld, KeepsStands, IsUntouched, IsWithin};
 ghost use Rattle.pad_chain.specs.Knows.{Knows, IsFull};
 ghost use Rattle.pad_chain.specs.Inside.Tables.{IsPut};
 ghost use Rattle.pad_chain.specs.Inside.Receiving.{KeepsNames, UndoesName, Receives, Refuses, TakesOn, Stays, Switches, MovesNothing, LeadsOn, IsFirst, Costs};
@@ -68,7 +68,7 @@ fn add_found(found: &mut Vec<Name>, more: Vec<Name>)
 }
 
 impl<S: UnitStore> Chain<S> {
-    /// Receives a message, and tells how the best chain changed. It is refused where its name is new and as many names are known
+    /// Receives a message, and tells how the chosen path changed. It is refused where its name is new and as many names are known
     /// as there may be, and `Full` comes only there. A chain that refused a message stands for what it stood for.
     pub fn receive<L: Ledger>(
         &mut self,
@@ -85,15 +85,17 @@ impl<S: UnitStore> Chain<S> {
         ensures knows_still { OnErr result ((base : Base) (received : List Message) → Knows self.old base received → Knows self.new base received) }
         ensures full { IfErr result (λ refused. refused ≡ Full → (graph.standing (state_of self.old.graph) (name_of message) ≡ Unknown) × (self.old.graph.known ≡ MOST_NAMES)) }
         ensures limit { IfErr result (λ refused. refused ≡ Full → (base : Base) (received : List Message) → Knows self.old base received → IsFull base received message) }
-        ensures room { OnOk result ((base : Base) (received : List Message) → Knows self.old base received → ¬ (IsFull base received message)) }
+        ensures elsewhere { OnOk result ((base : Base) (received : List Message) → Knows self.old base received → ¬ (IsFull base received message)) }
         ensures space { graph.standing (state_of self.old.graph) (name_of message) ≡ Unknown → self.old.graph.known ≡ MOST_NAMES → OnOk result ⊥ }
         ensures grows { (base : Base) (received : List Message) → Knows self.old base received → self.new.graph.known ≤ self.old.graph.known + 1 }
         ensures leads { IfOk result (λ moved. Leads (moved.reverted ++ moved.applied) self.old.branch.branch.units self.new.branch.branch.units) }
         ensures kept { OnOk result (KeepsFound self.old self.new) }
         ensures same { OnErr result (KeepsBranch self.old self.new) }
+        ensures held { OnErr result (KeepsHeld self.old self.new (name_of message)) }
+        ensures links { OnErr result (KeepsStands self.old self.new) }
         ensures untouched { IfErr result (λ refused. refused ≡ Full → IsUntouched self.old self.new) }
         ensures first { IfOk result (λ moved. length self.new.found ≡ length self.old.found → steps.new ≤ steps.old + length moved.reverted + 2 * length moved.applied) }
-        ensures cost { OnOk result ((base : Base) (received : List Message) (choice : Choice) (depth rise : ℕ) → NamesDiffer (message ∷ received) → StandsFor self.old base received choice → IsWithin base (message ∷ received) choice.root depth
+        ensures cost { OnOk result ((base : Base) (received : List Message) (choice : Choice) (depth rise : ℕ) → StandsFor self.old base received choice → IsWithin base (message ∷ received) choice.root depth
             → length self.new.found ≡ length self.old.found + rise → steps.new ≤ steps.old + 3 * depth * (rise + 1)) }
         ensures unstepped { IfErr result (λ refused. refused ≡ Full → steps.new ≡ steps.old) }
     {
@@ -125,9 +127,11 @@ impl<S: UnitStore> Chain<S> {
         ensures leads { IfOk result (λ moved. Leads (moved.reverted ++ moved.applied) self.old.branch.branch.units self.new.branch.branch.units) }
         ensures kept { OnOk result (KeepsFound self.old self.new) }
         ensures same { OnErr result (KeepsBranch self.old self.new) }
+        ensures held { OnErr result (KeepsHeld self.old self.new name) }
+        ensures links { OnErr result (KeepsStands self.old self.new) }
         ensures untouched { IfErr result (λ refused. refused ≡ Full → IsUntouched self.old self.new) }
         ensures first { IfOk result (λ moved. length self.new.found ≡ length self.old.found → steps.new ≤ steps.old + length moved.reverted + 2 * length moved.applied) }
-        ensures cost { OnOk result ((base : Base) (received : List Message) (choice : Choice) (depth rise : ℕ) → NamesDiffer (message ∷ received) → StandsFor self.old base received choice → IsWithin base (message ∷ received) choice.root depth
+        ensures cost { OnOk result ((base : Base) (received : List Message) (choice : Choice) (depth rise : ℕ) → StandsFor self.old base received choice → IsWithin base (message ∷ received) choice.root depth
             → length self.new.found ≡ length self.old.found + rise → steps.new ≤ steps.old + 3 * depth * (rise + 1)) }
         ensures unstepped { IfErr result (λ refused. refused ≡ Full → steps.new ≡ steps.old) }
     {
@@ -154,9 +158,11 @@ impl<S: UnitStore> Chain<S> {
         ensures leads { IfOk result (λ moved. Leads (moved.reverted ++ moved.applied) self.old.branch.branch.units self.new.branch.branch.units) }
         ensures kept { OnOk result (KeepsFound self.old self.new) }
         ensures same { OnErr result (KeepsBranch self.old self.new) }
+        ensures held { OnErr result (KeepsHeld self.old self.new name) }
+        ensures links { OnErr result (KeepsStands self.old self.new) }
         ensures untouched { IfErr result (λ refused. refused ≡ Full → IsUntouched self.old self.new) }
         ensures first { IfOk result (λ moved. length self.new.found ≡ length self.old.found → steps.new ≤ steps.old + length moved.reverted + 2 * length moved.applied) }
-        ensures cost { OnOk result ((base : Base) (received : List Message) (choice : Choice) (depth rise : ℕ) → NamesDiffer (message ∷ received) → StandsFor self.old base received choice → IsWithin base (message ∷ received) choice.root depth
+        ensures cost { OnOk result ((base : Base) (received : List Message) (choice : Choice) (depth rise : ℕ) → StandsFor self.old base received choice → IsWithin base (message ∷ received) choice.root depth
             → length self.new.found ≡ length self.old.found + rise → steps.new ≤ steps.old + 3 * depth * (rise + 1)) }
         ensures unstepped { IfErr result (λ refused. refused ≡ Full → steps.new ≡ steps.old) }
     {
@@ -191,6 +197,7 @@ impl<S: UnitStore> Chain<S> {
         ensures whole { self.new.whole ≡ self.old.whole }
         ensures none { IfOk result MovesNothing }
         ensures same { KeepsBranch self.old self.new }
+        ensures held { OnErr result (KeepsHeld self.old self.new name) }
     {
         stays_chosen();
         nothing_links();
@@ -220,7 +227,7 @@ impl<S: UnitStore> Chain<S> {
         Moved::none(alloc)
     }
 
-    /// Holds a message that became linked through the root with these, and chooses the best chain.
+    /// Holds a message that became linked through the root with these, and chooses a path anew.
     fn join<L: Ledger>(
         &mut self,
         alloc: Global,
@@ -240,6 +247,7 @@ impl<S: UnitStore> Chain<S> {
         ensures leads { IfOk result (LeadsOn self.old self.new) }
         ensures kept { OnOk result (KeepsFound self.old self.new) }
         ensures same { OnErr result (KeepsBranch self.old self.new) }
+        ensures held { OnErr result (KeepsHeld self.old self.new name) }
         ensures first { IfOk result (λ moved. IsFirst self.old self.new moved steps.old steps.new) }
         ensures cost { OnOk result (Costs self.old self.new linkings.now steps.old steps.new) }
     {
@@ -275,7 +283,7 @@ impl<S: UnitStore> Chain<S> {
         self.graph.undo_add(name);
     }
 
-    /// Chooses the best chain after a message on one without a mark became linked with these. The chain stays what it is where
+    /// Chooses a path anew after a message on one without a mark became linked with these. The chain stays what it is where
     /// there is no memory.
     fn take_on<L: Ledger>(
         &mut self,
@@ -310,7 +318,7 @@ impl<S: UnitStore> Chain<S> {
         }
     }
 
-    /// Notes what was found out, where the best chain stays.
+    /// Notes what was found out, where the chosen path stays.
     fn stay(
         &mut self,
         alloc: Global,
@@ -332,7 +340,7 @@ impl<S: UnitStore> Chain<S> {
         Ok(Moved::none(alloc))
     }
 
-    /// Makes the path that won the best chain, and notes what was found out.
+    /// Makes the path that won the chosen one, and notes what was found out.
     fn switch(
         &mut self,
         alloc: Global,

@@ -5,9 +5,9 @@ use Rattle.pad_message.specs.Message.{name_of}
 use Rattle.pad_graph.specs.State.{name_cmp}
 use Rattle.pad_chain.specs.State.{View, held_of}
 use Rattle.pad_chain.specs.Inside.Tables.{IsPut}
-use Rattle.pad_chain.specs.Receive.{KeepsFound, KeepsBranch}
+use Rattle.pad_chain.specs.Receive.{KeepsFound, KeepsBranch, KeepsHeld}
 use Rattle.pad_chain.specs.Inside.Receiving.{IsJoining, Receives, Refuses, KeepsNames, UndoesName, LeadsOn, IsFirst, Costs}
-use Rattle.pad_chain.proofs.Ground.{none_leads}
+use Rattle.pad_chain.proofs.Ground.{none_leads, held_same, held_again}
 use Rattle.pad_chain.proofs.Arms.{put_held, marked_held}
 use Rattle.pad_chain.proofs.Adding.{adding_on, same_mark, refused_hold, refused_join}
 use Rattle.pad_chain.proofs.Knowing.{keeps_same, keeps_on, undoes_on}
@@ -147,3 +147,18 @@ returns-in-Err-clause-same g c =
     let rest = c.take_back.ensures.rest in
     subst (λ (v : View). KeepsBranch v c.take_back.new.self) c.self.view_is
     (record { pruning = ap (λ (v : View). v.pruning) rest ∙ same.pruning; branch = ap (λ (v : View). v.branch.branch) rest ∙ same.branch; found = ap (λ (v : View). v.found) rest ∙ same.found; whole = ap (λ (v : View). v.whole) rest ∙ same.whole })
+
+pub returns-in_err-hold_added-clause-held : goal.returns-in_err-hold_added-clause-held
+returns-in_err-hold_added-clause-held g c =
+    let i = c.self.inside in
+    let old : View = record { graph = i.graph; pruning = i.pruning; messages = i.messages.entries; branch = i.branch; found = reverse i.found.items; whole = i.whole } in
+    let new : View = record old { graph = c.hold_added.new.graph; messages = c.hold_added.new.messages.entries } in
+    on_err c.from_residual.result (subst (λ (v : View). KeepsHeld v new c.args.name) c.self.view_is (held_same old new c.args.name c.in_err-hold_added.ensures.same))
+
+pub returns-in-Err-clause-held : goal.returns-in-Err-clause-held
+returns-in-Err-clause-held g c =
+    let i = c.self.inside in
+    let old : View = record { graph = i.graph; pruning = i.pruning; messages = i.messages.entries; branch = i.branch; found = reverse i.found.items; whole = i.whole } in
+    let mid : View = record old { graph = c.hold_added.new.graph; messages = c.hold_added.new.messages.entries } in
+    subst (λ (v : View). KeepsHeld v c.take_back.new.self c.args.name) c.self.view_is
+    (held_again old mid c.take_on.new.self c.take_back.new.self c.args.name (record { message = c.args.message; pathless = false }) c.in_ok-hold_added.ensures.held c.in-Err.ensures.untouched.messages c.take_back.ensures.removed)

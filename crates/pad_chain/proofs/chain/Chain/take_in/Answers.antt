@@ -10,9 +10,9 @@ use Rattle.pad_model.specs.Path.{NamesDiffer}
 use Rattle.pad_model.specs.Choice.{Choice}
 use Rattle.pad_checkpoint.specs.Links.{names_of}
 use Rattle.pad_chain.specs.Tie.{StandsFor}
-use Rattle.pad_chain.specs.Receive.{IsReceived, KeepsFound, KeepsBranch, IsUntouched, IsWithin}
+use Rattle.pad_chain.specs.Receive.{IsReceived, KeepsFound, KeepsBranch, KeepsHeld, KeepsStands, IsUntouched, IsWithin}
 use Rattle.pad_chain.specs.Inside.Receiving.{LeadsOn, IsFirst}
-use Rattle.pad_chain.proofs.Ground.{at_err, none_leads, branch_on}
+use Rattle.pad_chain.proofs.Ground.{at_err, none_leads, branch_on, held_stays, stands_same, stands_again}
 use Rattle.pad_chain.proofs.Depth.{branch_within, linkings_within}
 use Rattle.pad_chain.specs.Knows.{Knows}
 use Rattle.pad_chain.proofs.Arms.{known_received}
@@ -221,6 +221,47 @@ returns-in_ok-moved-in-Linked-clause-leads g c = subst (λ (v : View). LeadsOn v
 pub returns-in_ok-moved-in-Linked-clause-kept : goal.returns-in_ok-moved-in-Linked-clause-kept
 returns-in_ok-moved-in-Linked-clause-kept g c = subst (λ (v : View). KeepsFound v c.join.new.self) c.self.view_is c.in_ok-moved-in-Linked.ensures.kept
 
+pub returns-in_err-add-clause-held : goal.returns-in_err-add-clause-held
+returns-in_err-add-clause-held g c =
+    let i = c.self.inside in
+    let old : View = record { graph = i.graph; pruning = i.pruning; messages = i.messages.entries; branch = i.branch; found = reverse i.found.items; whole = i.whole } in
+    let mid : View = record old { graph = c.add.new.self } in
+    on_err c.from_residual.result (subst (λ (v : View). KeepsHeld v mid c.args.name) c.self.view_is (held_stays old c.args.name))
+
+pub returns-in_err-moved-in-Waiting-clause-held : goal.returns-in_err-moved-in-Waiting-clause-held
+returns-in_err-moved-in-Waiting-clause-held g c =
+    on_err c.from_residual-in_err-moved-in-Waiting.result (subst (λ (v : View). KeepsHeld v c.wait.new.self c.args.name) c.self.view_is c.in_err-moved-in-Waiting.ensures.held)
+
+pub returns-in_err-moved-in-Linked-clause-held : goal.returns-in_err-moved-in-Linked-clause-held
+returns-in_err-moved-in-Linked-clause-held g c =
+    on_err c.from_residual-in_err-moved-in-Linked.result (subst (λ (v : View). KeepsHeld v c.join.new.self c.args.name) c.self.view_is c.in_err-moved-in-Linked.ensures.held)
+
+pub returns-in_err-add-clause-links : goal.returns-in_err-add-clause-links
+returns-in_err-add-clause-links g c =
+    let i = c.self.inside in
+    let old : View = record { graph = i.graph; pruning = i.pruning; messages = i.messages.entries; branch = i.branch; found = reverse i.found.items; whole = i.whole } in
+    let mid : View = record old { graph = c.add.new.self } in
+    on_err c.from_residual.result (subst (λ (v : View). KeepsStands v mid) c.self.view_is (stands_same old mid c.in_err-add.ensures.err))
+
+pub returns-in_err-moved-in-Waiting-clause-links : goal.returns-in_err-moved-in-Waiting-clause-links
+returns-in_err-moved-in-Waiting-clause-links g c =
+    let m = c.args.message in
+    let i = c.self.inside in
+    let old : View = record { graph = i.graph; pruning = i.pruning; messages = i.messages.entries; branch = i.branch; found = reverse i.found.items; whole = i.whole } in
+    let mid : View = record old { graph = c.add.new.self } in
+    on_err c.from_residual-in_err-moved-in-Waiting.result (subst (λ (v : View). KeepsStands v c.wait.new.self) c.self.view_is
+    (stands_again old mid c.wait.new.self c.args.name m Waiting (λ links. refl) (subst (λ (a : Added). Tells old mid c.args.name m a) c.in-Waiting.is c.in_ok-add.ensures.stands) c.in_err-moved-in-Waiting.ensures.undone))
+
+pub returns-in_err-moved-in-Linked-clause-links : goal.returns-in_err-moved-in-Linked-clause-links
+returns-in_err-moved-in-Linked-clause-links g c =
+    let m = c.args.message in
+    let ls = c.as_slice.result.now in
+    let i = c.self.inside in
+    let old : View = record { graph = i.graph; pruning = i.pruning; messages = i.messages.entries; branch = i.branch; found = reverse i.found.items; whole = i.whole } in
+    let mid : View = record old { graph = c.add.new.self } in
+    on_err c.from_residual-in_err-moved-in-Linked.result (subst (λ (v : View). KeepsStands v c.join.new.self) c.self.view_is
+    (stands_again old mid c.join.new.self c.args.name m (Linked ls) (λ links. refl) (subst (λ (a : Added). Tells old mid c.args.name m a) (c.in-Linked.is ∙ ap Linked (sym c.as_slice.ensures)) c.in_ok-add.ensures.stands) c.in_err-moved-in-Linked.ensures.undone))
+
 -- ---- in how many steps
 
 pub returns-in_ok-moved-in-Linked-clause-first : goal.returns-in_ok-moved-in-Linked-clause-first
@@ -233,7 +274,7 @@ returns-in_ok-moved-in-Linked-clause-cost g c =
     let old : View = record { graph = i.graph; pruning = i.pruning; messages = i.messages.entries; branch = i.branch; found = reverse i.found.items; whole = i.whole } in
     let mid : View = record old { graph = c.add.new.self } in
     let ls = c.as_slice.result.now in
-    subst (λ (v : View). (b : Base) (R : List Message) (choice : Choice) (depth rise : ℕ) → NamesDiffer (m ∷ R) → StandsFor v b R choice → IsWithin b (m ∷ R) choice.root depth → length c.join.new.self.found ≡ length v.found + rise → c.join.new.steps ≤ c.args.steps.now + 3 * depth * (rise + 1)) c.self.view_is
-    (λ b R choice depth rise d s within e.
+    subst (λ (v : View). (b : Base) (R : List Message) (choice : Choice) (depth rise : ℕ) → StandsFor v b R choice → IsWithin b (m ∷ R) choice.root depth → length c.join.new.self.found ≡ length v.found + rise → c.join.new.steps ≤ c.args.steps.now + 3 * depth * (rise + 1)) c.self.view_is
+    (λ b R choice depth rise s within e.
     let a = is_adding old b R m choice mid c.args.name c.in_ok-add.field-0 (Linked c.as_slice.result.now) c.requires.named (c.in-Linked.is ∙ ap Linked (sym c.as_slice.ensures)) s c.in_ok-add.ensures.stands in
-    c.in_ok-moved-in-Linked.ensures.cost depth rise (branch_within b R m choice old a.stood depth within) (linkings_within b R m choice old a.stood depth within ls d a.told) e)
+    c.in_ok-moved-in-Linked.ensures.cost depth rise (branch_within b R m choice old a.stood depth within) (linkings_within b R m choice old a.stood depth within ls a.told) e)

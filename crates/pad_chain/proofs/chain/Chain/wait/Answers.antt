@@ -5,10 +5,11 @@ use Rattle.pad_message.specs.Message.{name_of}
 use Rattle.pad_graph.specs.State.{name_cmp}
 use Rattle.pad_chain.specs.State.{View, held_of}
 use Rattle.pad_chain.specs.Inside.Tables.{IsPut}
-use Rattle.pad_chain.specs.Receive.{KeepsBranch}
+use Rattle.pad_chain.specs.Receive.{KeepsBranch, KeepsHeld}
 use Rattle.pad_chain.specs.Inside.Receiving.{Receives, Refuses, KeepsNames, UndoesName}
 use Rattle.pad_chain.proofs.Arms.{waiting_received, put_held, same_held}
 use Rattle.pad_chain.proofs.Adding.{refused_hold}
+use Rattle.pad_chain.proofs.Ground.{held_same}
 use Rattle.pad_chain.proofs.Knowing.{keeps_same}
 use Rattle.pad_chain.proofs.chain.Chain.wait.Goals as goal
 
@@ -71,3 +72,10 @@ returns-in_err-hold_added-clause-same g c =
     let old : View = record { graph = i.graph; pruning = i.pruning; messages = i.messages.entries; branch = i.branch; found = reverse i.found.items; whole = i.whole } in
     let new : View = record old { graph = c.hold_added.new.graph; messages = c.hold_added.new.messages.entries } in
     subst (λ (v : View). KeepsBranch v new) c.self.view_is (record { pruning = refl; branch = refl; found = refl; whole = refl })
+
+pub returns-in_err-hold_added-clause-held : goal.returns-in_err-hold_added-clause-held
+returns-in_err-hold_added-clause-held g c =
+    let i = c.self.inside in
+    let old : View = record { graph = i.graph; pruning = i.pruning; messages = i.messages.entries; branch = i.branch; found = reverse i.found.items; whole = i.whole } in
+    let new : View = record old { graph = c.hold_added.new.graph; messages = c.hold_added.new.messages.entries } in
+    on_err c.from_residual.result (subst (λ (v : View). KeepsHeld v new c.args.name) c.self.view_is (held_same old new c.args.name c.in_err-hold_added.ensures.same))
