@@ -1,11 +1,13 @@
 #!/usr/bin/env python3
 """Tries the WebSocket edge from outside: peers that keep to RFC 6455, and peers that do not.
 
-usage: tests/websocket.py [--program PATH] [--only WORD] [--large]
+usage: tests/websocket.py [--program PATH] [--only WORD] [--long] [--large]
 
 It starts `ws_echo`, a small program over a port of `ws_edge`, on 127.0.0.1, and is its peers, with sockets and frames written by hand. For each row
 it prints what was wanted and what came, and then whether they agree. Rows on memory and on processor time read /proc. The
-status is 1 if any row differs. `--only` tries the rows whose name has the word in it; `--large` adds the row that takes 3 GB of memory.
+status is 1 if any row differs. `--only` tries the rows whose name has the word in it, long ones too; `--long` adds those that send many
+megabytes or measure for seconds, and `--large` the one that takes 3 GB of memory. Behind each row stands how long it took, how much
+processor time of the program, and the most memory that the program ever had.
 
 Build the program first: `cd crates/ws_echo && rt run`.
 """
@@ -63,10 +65,10 @@ class Echo:
         self.process.kill()
         self.process.wait()
 
-    def megabytes(self):
-        """How much memory it has."""
+    def megabytes(self, what="VmRSS"):
+        """How much memory it has; by `VmHWM`, the most that it ever had."""
         with open("/proc/%d/status" % self.process.pid) as status:
-            return next(int(line.split()[1]) >> 10 for line in status if line.startswith("VmRSS"))
+            return next(int(line.split()[1]) >> 10 for line in status if line.startswith(what))
 
     def ticks(self):
         """How much processor time it took, in hundredths of a second."""
@@ -190,9 +192,12 @@ def echoed(echo, text=b"hello"):
 ROWS = []
 
 
-def row(name, wanted, large=False):
+QUICK, LONG, LARGE = 0, 1, 2
+
+
+def row(name, wanted, size=QUICK):
     def add(function):
-        ROWS.append((name, wanted, function, large))
+        ROWS.append((name, wanted, function, size))
         return function
 
     return add
@@ -233,6 +238,21 @@ def early(echo):
     return peer.message()
 
 
+@row("requests as browsers and other libraries send them", [b"101"] * 5 + [False])
+def other_requests(echo):
+    fields = [{"Connection": "keep-alive, Upgrade"}, {"Upgrade": "WebSocket"}, {"Connection": "upgrade"}]
+    many = {"X-%d" % at: "x" for at in range(100)}
+    offers = {"Sec_WebSocket_Extensions": "permessage-deflate; client_max_window_bits", "Sec_WebSocket_Protocol": "a, b", "Origin": "http://x"}
+    out, lines = [], []
+    for each in fields + [many, offers]:
+        peer = Peer(echo)
+        peer.send(request("/pads?x=1", **each))
+        lines = peer.head()
+        out.append(lines[0].split(b" ")[1])
+    # No extension and no protocol is chosen.
+    return out + [any(line.lower().startswith((b"sec-websocket-extensions", b"sec-websocket-protocol")) for line in lines)]
+
+
 def unanswered(echo, data):
     peer = Peer(echo)
     try:
@@ -257,6 +277,11 @@ def no_request(echo):
 @row("a request of more than 32 KiB", b"")
 def long_request(echo):
     return unanswered(echo, request("/" + "a" * (33 << 10)))
+
+
+@row("a request of 200 fields", b"")
+def many_fields(echo):
+    return unanswered(echo, request(**{"X-%d" % at: "x" for at in range(200)}))
 
 
 @row("a request that ends in its midst", [b"", (TEXT, b"hello")])
@@ -314,7 +339,7 @@ def pings(echo):
     return [peer.message(), peer.message()]
 
 
-@row("16 MiB", [(TEXT, MESSAGE_BYTES)] * 2)
+@row("16 MiB", [(TEXT, MESSAGE_BYTES)] * 2, LONG)
 def longest(echo):
     peer = opened(echo)
     peer.send(frame(TEXT, b"a" * MESSAGE_BYTES))
@@ -326,11 +351,24 @@ def longest(echo):
     return [(kind, len(text)), (other, len(again))]
 
 
-@row("16 MiB and one byte", [[("close", 1009)]] * 2)
+@row("16 MiB and one byte", [[("close", 1009)]] * 2, LONG)
 def too_long(echo):
     part = MESSAGE_BYTES // 7
     pieces = [frame(0 if at else TEXT, b"b" * (part if at < 6 else MESSAGE_BYTES + 1 - 6 * part), fin=at == 6) for at in range(7)]
     return [refused(echo, frame(TEXT, b"a" * (MESSAGE_BYTES + 1))), refused(echo, *pieces)]
+
+
+@row("a frame in two pieces, parted at each place", "all came back")
+def parted(echo):
+    peer = opened(echo)
+    for at in range(1, len(frame(TEXT, b"x" * 130))):
+        data = frame(TEXT, b"x" * 130)
+        peer.send(data[:at])
+        time.sleep(0.001)
+        peer.send(data[at:])
+        if peer.message() != (TEXT, b"x" * 130):
+            return "not the text parted at %d" % at
+    return "all came back"
 
 
 # What is not allowed.
@@ -356,10 +394,12 @@ def reserved(echo):
     return [refused(echo, frame(TEXT, b"xx", reserved=bit)) for bit in (64, 32, 16)]
 
 
-@row("wrong UTF-8", [[("close", 1007)]] * 5)
+@row("wrong UTF-8", [[("close", 1007)]] * 7)
 def wrong_text(echo):
-    wrong = [b"\xff\xfe", b"\xc0\x80", b"\xed\xa0\x80", b"\xf4\x90\x80\x80"]
-    return [refused(echo, frame(TEXT, text)) for text in wrong] + [refused(echo, frame(TEXT, b"a", fin=False), frame(0, b"\x80", fin=False))]
+    wrong = [b"\xff\xfe", b"\xc0\x80", b"\xed\xa0\x80", b"\xf4\x90\x80\x80", b"a\xc3"]
+    parts = [(b"a", b"\x80", False), (b"\xf0\x9f", b"\x98", True)]
+    out = [refused(echo, frame(TEXT, text)) for text in wrong]
+    return out + [refused(echo, frame(TEXT, one, fin=False), frame(0, two, fin=fin)) for one, two, fin in parts]
 
 
 @row("fragments out of order", [[("close", 1002)]] * 2)
@@ -384,6 +424,11 @@ def text_first(echo):
     return peer.rest()
 
 
+@row("lengths that no frame may have", [[("close", 1002)], [("close", 1009)]])
+def no_length(echo):
+    return [refused(echo, b"\x81\xff" + struct.pack(">Q", count) + b"abcd") for count in (1 << 63, 1 << 40)]
+
+
 # Ends.
 
 
@@ -395,6 +440,27 @@ def closes(echo):
         peer.send(frame(CLOSE, payload))
         out.append(peer.rest())
     return out
+
+
+@row("closes that are not allowed: half a code, codes that none may send, a reason that is no UTF-8", [[("close", 1002)]] * 7 + [[("close", 1007)]])
+def wrong_closes(echo):
+    codes = [b"\x03"] + [struct.pack(">H", code) for code in (0, 999, 1005, 1006, 1015, 5000)]
+    return [refused(echo, frame(CLOSE, payload)) for payload in codes + [b"\x03\xe8\xff"]]
+
+
+@row("a text behind a close is thrown away", [("close", 1000), "end"])
+def text_behind_close(echo):
+    peer = opened(echo)
+    peer.send(frame(CLOSE, b"\x03\xe8") + frame(TEXT, b"late"))
+    return peer.rest()
+
+
+@row("an end within a frame", ["end"])
+def end_within(echo):
+    peer = opened(echo)
+    peer.send(frame(TEXT, b"a" * 100)[:50])
+    peer.socket.shutdown(socket.SHUT_WR)
+    return peer.rest()
 
 
 @row("a close within a message in fragments", [("close", 1000), "end"])
@@ -411,7 +477,7 @@ def hang_up(echo):
     return peer.rest()
 
 
-@row("a long text and a hang-up, to a peer that reads later", [(TEXT, 20000000), ("close", 1000), "end"])
+@row("a long text and a hang-up, to a peer that reads later", [(TEXT, 20000000), ("close", 1000), "end"], LONG)
 def long_hang_up(echo):
     peer = opened(echo, 4096)
     peer.send(frame(TEXT, b"!last 20000000"))
@@ -419,7 +485,7 @@ def long_hang_up(echo):
     return peer.rest()
 
 
-@row("an end without a close: what waits still comes", [(TEXT, 5000000), "end"])
+@row("an end without a close: what waits still comes", [(TEXT, 5000000), "end"], LONG)
 def half_end(echo):
     peer = opened(echo, 4096)
     peer.send(frame(TEXT, b"!many 1 5000000"))
@@ -438,10 +504,20 @@ def vanishes(echo):
     return echoed(echo)
 
 
+@row("a peer that vanishes while much waits for it, and one after it", (TEXT, b"hello"))
+def vanishes_late(echo):
+    peer = opened(echo, 4096)
+    peer.socket.setsockopt(socket.SOL_SOCKET, socket.SO_LINGER, struct.pack("ii", 1, 0))
+    peer.send(frame(TEXT, b"!many 300 10000"))
+    time.sleep(0.2)
+    peer.socket.close()
+    return echoed(echo)
+
+
 # Many, and slow.
 
 
-@row("silent peers, half a frame, half a request, and one beside them", is_in(0, 0.5))
+@row("silent peers, half a frame, half a request, and one beside them: its wait in seconds", is_in(0, 2))
 def silent(echo):
     held = [Peer(echo), Peer(echo), opened(echo), opened(echo)]
     held[1].send(request()[:30])
@@ -451,24 +527,70 @@ def silent(echo):
     return round(time.time() - begun, 3)
 
 
-@row("1,000 connections that are opened and dropped, and one after them", (TEXT, b"hello"))
+@row("20 peers that send a frame byte by byte, beside one that talks: its longest wait in seconds", is_in(0, 2))
+def drips(echo):
+    peers = [opened(echo) for _ in range(20)]
+    data = frame(TEXT, b"d" * 1000)
+    other = opened(echo)
+    worst = 0.0
+    for at in range(300):
+        for peer in peers:
+            peer.send(data[at : at + 1])
+        begun = time.time()
+        other.send(frame(TEXT, b"hello"))
+        assert other.message() == (TEXT, b"hello")
+        worst = max(worst, time.time() - begun)
+    return round(worst, 4)
+
+
+@row("1,100 handshakes that never end: the oldest are given up, and one that talks is served", [is_in(76, 80), (TEXT, b"hello")])
+def endless_handshakes(echo):
+    peers = []
+    for _ in range(1100):
+        peers.append(Peer(echo))
+        peers[-1].send(b"GET / HTTP/1.1\r\n")
+    beside = echoed(echo)
+    closed = 0
+    for peer in peers:
+        peer.socket.setblocking(False)
+        try:
+            closed += peer.socket.recv(1) == b""
+        except BlockingIOError:
+            pass
+        except ConnectionError:
+            closed += 1
+        peer.socket.close()
+    return [closed, beside]
+
+
+@row("1,000 connections that are opened and dropped, one by one and all at once, and one after them", (TEXT, b"hello"))
 def dropped(echo):
     for _ in range(1000):
         peer = socket.socket()
         peer.connect(echo.address)
         peer.close()
+    peers = [Peer(echo) for _ in range(1000)]
+    for at, peer in enumerate(peers):
+        peer.send(request()[: at % 200])
+        if at % 2:
+            peer.socket.setsockopt(socket.SOL_SOCKET, socket.SO_LINGER, struct.pack("ii", 1, 0))
+    for peer in peers:
+        peer.socket.close()
     return echoed(echo)
 
 
-@row("1,000 connections at once: all are served; idle, in 5 s, they take few hundredths of a second; memory in MB", [1000, is_in(0, 5), is_in(0, 100)])
+@row("1,024 connections at once: all are served; idle, in 2 s, they take few hundredths of a second; memory in MB", [1024, is_in(0, 5), is_in(0, 100)])
 def thousand(echo):
-    peers = [Peer(echo) for _ in range(1000)]
-    for peer in peers:
-        peer.send(request())
-    for peer in peers:
-        peer.head()
+    peers = []
+    for _ in range(8):
+        some = [Peer(echo) for _ in range(128)]
+        for peer in some:
+            peer.send(request())
+        for peer in some:
+            peer.head()
+        peers += some
     begun = echo.ticks()
-    time.sleep(5)
+    time.sleep(2)
     idle = echo.ticks() - begun
     for peer in peers:
         peer.send(frame(TEXT, b"e" * 100))
@@ -479,7 +601,7 @@ def thousand(echo):
     return [served, idle, most]
 
 
-@row("200 MB in one step for a reader that begins later", [200, (TEXT, b"hello"), is_in(0, 330)])
+@row("200 MB in one step for a reader that begins later", [200, (TEXT, b"hello"), is_in(0, 330)], LONG)
 def history(echo):
     peer = opened(echo)
     peer.send(frame(TEXT, b"!many 200 1000000"))
@@ -492,7 +614,7 @@ def history(echo):
     return [got, beside, most]
 
 
-@row("a reader that does not read: what waited, then a close; no more memory than waits", [50, "close", is_in(0, 200)])
+@row("a reader that does not read: what waited, then a close; no more memory than waits", [50, "close", is_in(0, 200)], LONG)
 def slow_reader(echo):
     peer = opened(echo, 4096)
     peer.send(frame(TEXT, b"!many 50 1000000"))
@@ -504,7 +626,7 @@ def slow_reader(echo):
     return [sum(one == (TEXT, 1000000) for one in rest), rest[-2][0], most]
 
 
-@row("one that sends and never reads, beside one that talks", [is_in(0, 1), is_in(0, 150)])
+@row("one that sends and never reads, beside one that talks", [is_in(0, 1), is_in(0, 150)], LONG)
 def flood(echo):
     peer = opened(echo)
     peer.socket.settimeout(3)
@@ -532,7 +654,7 @@ def flood(echo):
     return [worst, most]
 
 
-@row("pings without end from one that never reads: it is not read either", [is_in(0, 150)])
+@row("pings without end from one that never reads: it is not read either", [is_in(0, 150)], LONG)
 def ping_flood(echo):
     peer = opened(echo)
     peer.socket.settimeout(3)
@@ -547,7 +669,7 @@ def ping_flood(echo):
     return [most]
 
 
-@row("empty fragments without end, beside one that talks: its longest wait in seconds", is_in(0, 0.3))
+@row("empty fragments without end, beside one that talks: its longest wait in seconds", is_in(0, 2))
 def fragment_flood(echo):
     peer = opened(echo)
     peer.socket.settimeout(1)
@@ -577,7 +699,7 @@ def fragment_flood(echo):
     return round(worst, 4)
 
 
-@row("50 connections that had 4 MB each way: how many MB they keep", is_in(0, 100))
+@row("50 connections that had 4 MB each way: how many MB they keep", is_in(0, 100), LONG)
 def kept(echo):
     before = echo.megabytes()
     peers = [opened(echo) for _ in range(50)]
@@ -591,7 +713,7 @@ def kept(echo):
     return after - before
 
 
-@row("72 readers that do not read, 31 MB each, and one beside them", [is_in(0, 2600), is_in(1, 72), (TEXT, b"hello")], large=True)
+@row("72 readers that do not read, 31 MB each, and one beside them", [is_in(0, 2600), is_in(1, 72), (TEXT, b"hello")], LARGE)
 def most_unsent(echo):
     peers = [opened(echo, 4096) for _ in range(72)]
     for peer in peers:
@@ -631,7 +753,7 @@ def again(echo):
     return echoed(echo)
 
 
-@row("40 descriptors, 60 connections: little time, and served once places are free", [is_in(0, 20), (TEXT, b"hello")])
+@row("40 descriptors, 60 connections: little time, and served once places are free", [is_in(0, 20), (TEXT, b"hello")], LONG)
 def few_descriptors(echo):
     other = Echo(echo.program, descriptors=40)
     try:
@@ -668,6 +790,7 @@ def main():
     parser = argparse.ArgumentParser(description=__doc__.split("\n")[0])
     parser.add_argument("--program", default=os.path.join(TOP, "crates/ws_echo/out/ws_echo"))
     parser.add_argument("--only", default="")
+    parser.add_argument("--long", action="store_true")
     parser.add_argument("--large", action="store_true")
     options = parser.parse_args()
     most = resource.getrlimit(resource.RLIMIT_NOFILE)[1]
@@ -675,17 +798,22 @@ def main():
     echo = Echo(options.program)
     failed = passed = 0
     try:
-        for name, wanted, function, large in ROWS:
-            if options.only not in name or large and not options.large:
+        largest = LARGE if options.large else LONG if options.long or options.only else QUICK
+        for name, wanted, function, size in ROWS:
+            if options.only not in name or size > largest:
                 continue
-            begun = time.time()
+            begun, ticks = time.time(), echo.ticks()
             try:
                 got = function(echo)
             except Exception as error:
                 got = repr(error)
             good = agrees(wanted, got) and echo.process.poll() is None
             passed, failed = passed + good, failed + (not good)
-            print("%s  %s (%.2f s)\n      wanted %s\n      got    %s" % ("ok  " if good else "FAIL", name, time.time() - begun, shown(wanted), got), flush=True)
+            print("%s  %s" % ("ok  " if good else "FAIL", name), flush=True)
+            print("      wanted %s\n      got    %s" % (shown(wanted), got), flush=True)
+            if echo.process.poll() is None:
+                spent = (time.time() - begun, max(0, echo.ticks() - ticks) / 100, echo.megabytes("VmHWM"))
+                print("      %.2f s, %.2f s of the program, at most %d MB so far" % spent, flush=True)
     finally:
         echo.stop()
     print("%d passed, %d failed" % (passed, failed))
