@@ -1,5 +1,5 @@
 -- Laws of the entries of a channel's list.
-use Rattle.std.proofs.Common.{◌≡◌, ◌∙◌, inl, inr, ℕ, suc, ◌+◌, ◌<◌, ◌≤◌, arith, Bool, IsTrue, List, length, Some, sym, ap, subst}
+use Rattle.std.proofs.Common.{◌≡◌, ◌∙◌, inl, inr, ℕ, suc, ◌+◌, ◌<◌, ◌≤◌, ◌&&◌, arith, Bool, true, false, refl, IsTrue, List, length, Some, sym, ap, subst}
 use Rattle.std.specs.Prelude.{slice_get}
 use Rattle.std.proofs.lemmas.Bool.Decides.{leb_tells}
 use Rattle.log_format.specs.declared.form.Form.{Form}
@@ -8,11 +8,13 @@ use Rattle.log_format.specs.declared.form.TheConstants.{MOST_ENTRIES_ONE}
 use Rattle.log_format.specs.Form.{most_entries_of}
 use Rattle.disk_volume.specs.Disk.{Disk, reads}
 use Rattle.disk_volume.specs.Moments.{EachNow}
-use Rattle.keeper_channel.specs.Chan.{MarkerAt, unmarked, IsList}
-use Rattle.keeper_channel.specs.Logs.{IsFound, IsLive, IsLogsOf, HasCount}
+use Rattle.gated_log.specs.Ledger.{has_room}
+use Rattle.keeper_channel.specs.Chan.{MarkerAt, unmarked, IsList, channel_room}
+use Rattle.keeper_channel.specs.Logs.{IsFound, IsLive, IsLogsOf, HasCount, log_room}
 use Rattle.keeper_channel.specs.declared.logs.Logs.{Logs}
 use Rattle.keeper_channel.specs.declared.logs.Logs.TheVariants.{Unmoved, Moved}
 use Rattle.keeper_channel.proofs.Chans.{get_before, get_behind, marked_at, unmoved_list, moved_list, list_by, found_list, length-moved, length-unmarked}
+use Rattle.keeper_channel.proofs.Rooms.{room_marked}
 
 pub few_entries : (form : Form) → most_entries_of form ≤ 1048577
 few_entries One = omega arith
@@ -25,6 +27,25 @@ entry_of two marker index place payload at before behind got = elim (leb_tells m
   | inl is ↦ get_behind two marker index at is.1 ∙ ap (slice_get two) (let same : suc index ≡ index + 1 = omega arith in same ∙ sym (behind is.1)) ∙ got
   | inr is ↦ get_before two marker index at is.1 ∙ ap (slice_get two) (sym (before is.1)) ∙ got
 ]
+
+with_true : (room : Bool) → (room && true) ≡ room
+with_true true = refl
+with_true false = refl
+
+with_same : (room same : Bool) → same ≡ room → (room && same) ≡ room
+with_same true same is = is
+with_same false same is = refl
+
+-- the log of a channel that is loaded has the room that its list has
+pub live_room : {O G : Type 0} (holds_one : O → List (List ℕ) → Disk → Type 0) (holds_two : G → List (List ℕ) → Disk → Type 0) (doubt : (List ℕ → List ℕ) → List (List ℕ))
+    (is_one : O → Type 0) (is_two : G → Type 0) (room_two : G → (entries bytes : ℕ) → Bool) (logs : Logs O G) (held suspense : List (List ℕ)) (disk : Disk) (entries bytes : ℕ)
+    → ((log : G) (payloads : List (List ℕ)) → is_two log → holds_two log payloads disk → room_two log entries bytes ≡ has_room Two payloads entries bytes)
+    → IsLogsOf is_one is_two logs → IsLive holds_one holds_two doubt logs held suspense disk
+    → (channel_room held entries bytes && log_room room_two logs entries bytes) ≡ channel_room held entries bytes
+live_room holds_one holds_two doubt is_one is_two room_two (Unmoved one two) held suspense disk entries bytes by made is = with_true (channel_room held entries bytes)
+live_room holds_one holds_two doubt is_one is_two room_two (Moved log marker) held suspense disk entries bytes by made is =
+    with_same (channel_room held entries bytes) (room_two log entries bytes)
+    (by log is.new made is.holds_new ∙ room_marked is.new entries bytes (marked_at is.new marker is.marked) ∙ ap (λ (l : List (List ℕ)). channel_room l entries bytes) (sym is.held_is))
 
 -- each image of a channel that is loaded is its list
 pub live_now : {O G : Type 0} (opens_one opens_two : (List ℕ → List ℕ) → List (List ℕ) → Type 0) (doubt : (List ℕ → List ℕ) → List (List ℕ))

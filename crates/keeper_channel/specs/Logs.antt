@@ -1,5 +1,5 @@
 -- How the logs of a channel stand on a disk.
-use Rattle.std.specs.Prelude.{◌≡◌, ◌⊎◌, ℕ, ◌+◌, false, List, [], Option, Some, None}
+use Rattle.std.specs.Prelude.{◌≡◌, ◌⊎◌, ℕ, ◌+◌, Bool, true, false, List, [], Option, Some, None}
 use Rattle.disk_volume.specs.Disk.{Disk, reads}
 use Rattle.log_format.specs.declared.damage.Damage.{Damage}
 use Rattle.gated_log.specs.declared.refused.LoadRefused.{LoadRefused}
@@ -63,6 +63,12 @@ IsLogsOf is_one is_two (Moved log marker) = is_two log
 abbrev pub HasCount : {O G : Type 0} (count_one : O → ℕ) (count_two : G → ℕ) → Logs O G → ℕ → Type 0
 HasCount count_one count_two (Unmoved one two) count = count_one one ≡ count
 HasCount count_one count_two (Moved log marker) count = count_two log ≡ count + 1
+
+-- Whether the log of form Two, where it is the channel's, has room for so many entries more. One that is not holds nothing yet that
+-- could be in the way.
+abbrev pub log_room : {O G : Type 0} (room_two : G → (entries bytes : ℕ) → Bool) → Logs O G → (entries bytes : ℕ) → Bool
+log_room room_two (Unmoved one two) entries bytes = true
+log_room room_two (Moved log marker) entries bytes = room_two log entries bytes
 
 -- a load of these files found what is held on this disk
 abbrev pub IsFoundIn : {O G : Type 0} (opens_one opens_two : (List ℕ → List ℕ) → List (List ℕ) → Type 0) (doubt : (List ℕ → List ℕ) → List (List ℕ))

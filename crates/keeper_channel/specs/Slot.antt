@@ -1,5 +1,5 @@
 -- How a channel stands on a disk, with its index.
-use Rattle.std.specs.Prelude.{◌≡◌, ◌⊎◌, ◌↔◌, ℕ, List, ◌++◌, [], length, false, Option, None, Some, IsSome, Result, Err, MatchResult, IfErr, IsErrOf, ◌≤◌}
+use Rattle.std.specs.Prelude.{◌≡◌, ◌⊎◌, ◌↔◌, ℕ, List, ◌++◌, [], length, false, Option, None, Some, IsSome, Result, Err, IfOk, IfErr, IsErrOf, ◌≤◌}
 use Rattle.disk_volume.specs.Disk.{Disk, reads}
 use Rattle.disk_volume.specs.Moments.{EachNow, EachSince, JustSyncs}
 use Rattle.log_format.specs.Frames.{size_of}
@@ -68,9 +68,7 @@ pub record IsStored {O G : Type 0} (opens_one opens_two : (List ℕ → List ℕ
     (holds_one : O → List (List ℕ) → Disk → Type 0) (holds_two : G → List (List ℕ) → Disk → Type 0)
     (held suspense added : List (List ℕ)) (slot : Option (Slot O G)) (answer : Result ℕ KeeperRefused) (old new : Disk) : Type 0 where
   pub each : EachSince old new (λ image. IsWithin (IsList opens_one opens_two image) held suspense ⊎ IsWithin (IsList opens_one opens_two image) held added)
-  pub left : MatchResult answer (λ index. Keeps opens_one opens_two doubt holds_one holds_two slot (held ++ added) [] new × (index ≡ length held))
-      (λ refused. Keeps opens_one opens_two doubt holds_one holds_two slot held suspense new
-      ⊎ ((refused ≡ Store) × Keeps opens_one opens_two doubt holds_one holds_two slot held added new))
+  pub left : IfOk answer (λ index. Keeps opens_one opens_two doubt holds_one holds_two slot (held ++ added) [] new × (index ≡ length held))
   pub full : IsErrOf answer Full ↔ (channel_room held (length added) (size_of added) ≡ false)
   pub nothing : IsErrOf answer Full → IsSome slot × (new ≡ old)
   pub undamaged : (damage : Damage) → IsErrOf answer (Damaged damage) → ⊥

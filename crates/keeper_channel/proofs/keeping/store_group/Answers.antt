@@ -21,7 +21,7 @@ returns-in-Err-clause-stored g c = λ told held suspense is room.
     c.requires.made.made is.live in
     record {
       each = λ image left. inl (inl (now image (now_alone disk image left)));
-      left = inl (λ image left. inl (now image left));
+      left = tt;
       full = ((λ is_full. absurd (cc)), (λ none. let e : true ≡ false = sym room ∙ none in absurd (cc)));
       nothing = λ is_full. absurd (cc);
       undamaged = λ damage found. absurd (cc);

@@ -20,3 +20,9 @@ returns-in-Some-clause-full g c = rw c.in-Some.is c.store_entries.ensures.full
 
 pub returns-in-None-clause-full : goal.returns-in-None-clause-full
 returns-in-None-clause-full g c = rw c.in-None.is tt
+
+pub returns-in-Some-clause-nothing : goal.returns-in-Some-clause-nothing
+returns-in-Some-clause-nothing g c = λ some. c.store_entries.ensures.nothing
+
+pub returns-in-None-clause-nothing : goal.returns-in-None-clause-nothing
+returns-in-None-clause-nothing g c = λ some. let no = rw c.in-None.is at some in absurd (cc)

@@ -9,7 +9,7 @@ use Rattle.keeper_channel.specs.Chan.{IsList, IsWithin}
 use Rattle.keeper_channel.specs.Logs.{NamesDamage}
 use Rattle.keeper_channel.specs.Slot.{NamesIt}
 use Rattle.keeper_channel.specs.Inside.Refusals.{refused_by}
-use Rattle.keeper_channel.specs.declared.refused.KeeperRefused.TheVariants.{Store, Damaged, NoMemory}
+use Rattle.keeper_channel.specs.declared.refused.KeeperRefused.TheVariants.{Full, Store, Damaged, NoMemory}
 use Rattle.keeper_channel.proofs.Results.{same_refusal}
 use Rattle.keeper_channel.proofs.Stays.{syncs_within}
 use Rattle.keeper_channel.proofs.stores.store_unloaded.Goals as goal
@@ -62,6 +62,14 @@ returns-in-Err-clause-stored g c = λ told held suspense tie.
       names = rw c.refused_for.ensures (names_it _ c.in-Err.refused (c.in-Err.ensures.damaged told));
       syncs = syncs_within mid (λ file is. tt) (c.reload.ensures.syncs told);
     })
+
+full_before : (refused : LoadRefused) → refused_by refused ≡ Full → ⊥
+full_before LoadStore is = let e : Store ≡ Full = is in cc
+full_before (LoadDamaged damage) is = let e : Damaged damage ≡ Full = is in cc
+full_before (LoadNoMemory error) is = let e : NoMemory error ≡ Full = is in cc
+
+pub returns-in-Err-clause-loaded : goal.returns-in-Err-clause-loaded
+returns-in-Err-clause-loaded g c = λ is. absurd (full_before c.in-Err.refused (sym c.refused_for.ensures ∙ same_refusal c.refused_for.result Full is))
 
 pub returns-in-Err-clause-store : goal.returns-in-Err-clause-store
 returns-in-Err-clause-store g c = λ is.
