@@ -1,8 +1,9 @@
 -- Lines behind lines, and what is written of them.
 use Rattle.std.proofs.Common.{◌≡◌, ◌∙◌, ℕ, zero, suc, ◌+◌, List, [], ◌∷◌, ◌++◌, length, take, drop, Some, Option, Err, IsErrOf, refl, sym, ap, subst, arith, append_assoc}
-use Rattle.std.proofs.lemmas.List.{append-nil}
-use Rattle.std.proofs.Math.Seq.{take-append_seam}
-use Rattle.std.proofs.KnownBytes.{Appends-nil, Appends-trans, starts_with_rest}
+use Rattle.std.proofs.lemmas.List.{append-nil, length-append}
+use Rattle.std.proofs.lemmas.Option.{slice_get_within, get_or_from_slice_get}
+use Rattle.std.proofs.Math.Seq.{take-append_seam, take-suc}
+use Rattle.std.proofs.KnownBytes.{Appends-trans, starts_with_rest}
 use Rattle.std.specs.Io.{StartsWith}
 use Rattle.std.specs.Io.KnownBytes.{Appends}
 use Rattle.std.specs.Prelude.{slice_get}
@@ -11,27 +12,33 @@ use Rattle.gated_log.specs.declared.refused.LoadRefused.{LoadRefused}
 use Rattle.gated_log.specs.declared.refused.LoadRefused.TheVariants.{Damaged as LoadDamaged}
 use Rattle.keeper_channel.specs.Logs.{NamesDamage}
 use Rattle.pad_output.specs.Output.{AppendsPart}
-use Rattle.pad_log.specs.Lines.{line_of_entry, lines_from}
+use Rattle.pad_log.specs.Lines.{line_of_entry, line_of_count, lines_from, log_text}
 
-lines_next : (index n : ℕ) (payloads : List (List ℕ)) (payload : List ℕ) → slice_get payloads n ≡ Some payload
-    → lines_from index (take n payloads) ++ line_of_entry (index + n) payload ≡ lines_from index (take (suc n) payloads)
-lines_next index n [] payload got = absurd (cc)
-lines_next index zero (first ∷ payloads) payload got =
-    let same : first ≡ payload = cc in
-    let here : index + 0 ≡ index = omega arith in
-    ap (λ (i : ℕ). line_of_entry i payload) here ∙ ap (line_of_entry index) (sym same) ∙ sym (append-nil (line_of_entry index first))
-lines_next index (suc n) (first ∷ payloads) payload got =
-    let place : index + suc n ≡ suc index + n = omega arith in
-    append_assoc (line_of_entry index first) (lines_from (suc index) (take n payloads)) (line_of_entry (index + suc n) payload)
-    ∙ ap (λ (i : ℕ). line_of_entry index first ++ (lines_from (suc index) (take n payloads) ++ line_of_entry i payload)) place
-    ∙ ap (λ (rest : List ℕ). line_of_entry index first ++ rest) (lines_next (suc index) n payloads payload got)
-
--- one entry more, of a list of which the first has this index
-pub lines_more : (index n : ℕ) (payloads : List (List ℕ)) (payload : List ℕ) → slice_get payloads n ≡ Some payload
-    → lines_from index (take n payloads) ++ line_of_entry (index + n) payload ≡ lines_from index (take (n + 1) payloads)
-lines_more index n payloads payload got =
+-- the payloads before an index and the one that has it
+pub take_more : (n : ℕ) (payloads : List (List ℕ)) (payload : List ℕ) → slice_get payloads n ≡ Some payload → take n payloads ++ payload ∷ [] ≡ take (n + 1) payloads
+take_more n payloads payload got =
     let e : suc n ≡ n + 1 = omega arith in
-    lines_next index n payloads payload got ∙ ap (λ (k : ℕ). lines_from index (take k payloads)) e
+    sym (take-suc payloads n [] (slice_get_within payloads n payload got) ∙ ap (λ (p : List ℕ). take n payloads ++ p ∷ []) (get_or_from_slice_get payloads n payload [] got))
+    ∙ ap (λ (k : ℕ). take k payloads) e
+
+-- one entry more, behind a list of which the first has this index
+lines_behind : (index : ℕ) (list : List (List ℕ)) (payload : List ℕ) → lines_from index (list ++ payload ∷ []) ≡ lines_from index list ++ line_of_entry (index + length list) payload
+lines_behind index [] payload =
+    let here : index ≡ index + 0 = omega arith in
+    append-nil (line_of_entry index payload) ∙ ap (λ (i : ℕ). line_of_entry i payload) here
+lines_behind index (first ∷ list) payload =
+    let place : suc index + length list ≡ index + suc (length list) = omega arith in
+    ap (λ (rest : List ℕ). line_of_entry index first ++ rest) (lines_behind (suc index) list payload ∙ ap (λ (i : ℕ). lines_from (suc index) list ++ line_of_entry i payload) place)
+    ∙ sym (append_assoc (line_of_entry index first) (lines_from (suc index) list) (line_of_entry (index + suc (length list)) payload))
+
+-- one entry more, behind as many as its index says
+pub lines_more : (index : ℕ) (list : List (List ℕ)) (payload : List ℕ) → length list ≡ index → lines_from 0 list ++ line_of_entry index payload ≡ lines_from 0 (list ++ payload ∷ [])
+lines_more index list payload long =
+    let place : index ≡ 0 + length list = omega (arith, long) in
+    ap (λ (i : ℕ). lines_from 0 list ++ line_of_entry i payload) place ∙ sym (lines_behind 0 list payload)
+
+pub length_more : (index : ℕ) (list : List (List ℕ)) (payload : List ℕ) → length list ≡ index → length (list ++ payload ∷ []) ≡ index + 1
+length_more index list payload long = length-append list (payload ∷ []) ∙ ap (λ (n : ℕ). n + 1) long
 
 -- the lines of all entries are those of the first and those of the others
 pub lines_parts : (index n : ℕ) (payloads : List (List ℕ)) → (rest : List ℕ) × (lines_from index payloads ≡ lines_from index (take n payloads) ++ rest)
@@ -45,16 +52,26 @@ lines_parts index (suc n) (payload ∷ payloads) =
 front_of : (whole front rest : List ℕ) → whole ≡ front ++ rest → StartsWith whole front
 front_of whole front rest parts = ap (take (length front)) parts ∙ take-append_seam front rest
 
--- nothing was written
-pub no_part : (written : Option (List ℕ)) (whole : List ℕ) → AppendsPart written written whole
-no_part written whole = ([], refl, Appends-nil written)
+-- a part from the front of a text is one of a longer text
+pub front_more : (whole text rest part : List ℕ) → whole ≡ text ++ rest → StartsWith text part → StartsWith whole part
+front_more whole text rest part parts starts =
+    let behind : List ℕ = drop (length part) text in
+    let inner : text ≡ part ++ behind = starts_with_rest text part starts in
+    front_of whole part (behind ++ rest) (parts ∙ ap (λ (t : List ℕ). t ++ rest) inner ∙ append_assoc part behind rest)
 
--- a part of a text is one of a longer text
-pub part_of_more : (old new : Option (List ℕ)) (text rest whole : List ℕ) → whole ≡ text ++ rest → AppendsPart old new text → AppendsPart old new whole
-part_of_more old new text rest whole parts written =
-    let behind : List ℕ = drop (length written.0) text in
-    let inner : text ≡ written.0 ++ behind = starts_with_rest text written.0 written.1 in
-    (written.0, front_of whole written.0 (behind ++ rest) (parts ∙ ap (λ (t : List ℕ). t ++ rest) inner ∙ append_assoc written.0 behind rest), written.2)
+-- the whole text is its own front
+pub whole_front : (text : List ℕ) → StartsWith text text
+whole_front text = front_of text text [] (sym (append-nil text))
+
+-- a part from the front of the lines of a list's entries
+pub lines_front : (list : List (List ℕ)) (part : List ℕ) → StartsWith (lines_from 0 list) part → StartsWith (log_text list) part
+lines_front list part starts = front_more (log_text list) (lines_from 0 list) (line_of_count (length list)) part refl starts
+
+-- a part from the front of the lines of a list's first entries
+pub first_front : (n : ℕ) (list : List (List ℕ)) (part : List ℕ) → StartsWith (lines_from 0 (take n list)) part → StartsWith (log_text list) part
+first_front n list part starts =
+    let parts = lines_parts 0 n list in
+    lines_front list part (front_more (lines_from 0 list) (lines_from 0 (take n list)) parts.0 part parts.1 starts)
 
 -- a part of a text behind a text that was written whole
 pub part_behind : (old mid new : Option (List ℕ)) (front text : List ℕ) → Appends old mid front → AppendsPart mid new text → AppendsPart old new (front ++ text)

@@ -5,8 +5,8 @@ use Rattle.serde_json.specs.Written.{compact_text}
 use Rattle.keeper_entry.specs.Entry.{moment_in, sender_in, content_in}
 
 -- the JSON string of a text in UTF-8 (RFC 8259, section 7)
-abbrev pub json_string : List ℕ → List ℕ
-json_string bytes = compact_text (string bytes)
+abbrev pub json_string_of_bytes : List ℕ → List ℕ
+json_string_of_bytes bytes = compact_text (string bytes)
 
 -- the two numbers in front of a line
 abbrev pub numbers_of : (index moment : ℕ) → List ℕ
@@ -18,7 +18,7 @@ rest_of sender told = codes " " ++ sender ++ codes " " ++ told ++ codes "\n"
 
 -- the line of the entry in a payload: its index, its moment, its sender, and its content as a JSON string
 abbrev pub line_of_entry : (index : ℕ) (payload : List ℕ) → List ℕ
-line_of_entry index payload = numbers_of index (moment_in payload) ++ rest_of (sender_in payload) (json_string (content_in payload))
+line_of_entry index payload = numbers_of index (moment_in payload) ++ rest_of (sender_in payload) (json_string_of_bytes (content_in payload))
 
 -- the line that tells how many entries there are
 abbrev pub line_of_count : (total : ℕ) → List ℕ

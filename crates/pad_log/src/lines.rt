@@ -1,6 +1,6 @@
 ghost use Rattle.std.specs.Prelude.{◌≡◌, ◌++◌, IfOk, MatchOption, string_bytes};
 ghost use Rattle.keeper_entry.specs.Entry.{IsEntry};
-ghost use Rattle.pad_log.specs.Lines.{numbers_of, rest_of, json_string, line_of_entry, line_of_count};
+ghost use Rattle.pad_log.specs.Lines.{numbers_of, rest_of, json_string_of_bytes, line_of_entry, line_of_count};
 
 use keeper_entry::{content_of, moment_of, sender_of};
 use serde_json::Value;
@@ -40,7 +40,7 @@ fn push_rest(line: &mut String, sender: &str, told: &str) -> Result<(), AllocErr
 
 /// A content as a JSON string.
 fn quoted(alloc: Global, content: &str) -> Result<String, AllocError>
-    ensures { IfOk result (λ string. string_bytes string ≡ json_string content.now) }
+    ensures { IfOk result (λ string. string_bytes string ≡ json_string_of_bytes content.now) }
 {
     let value = Value::String(String::from_str(alloc, content)?);
     value.to_string(alloc)

@@ -1,16 +1,18 @@
 ghost use Rattle.std.specs.Prelude.{◌≡◌, ◌⊎◌, ◌<◌, ◌≤◌, List, ℕ, Some, slice_get, OnOk, OnErr, IsErrOf, IsTrue};
+ghost use Rattle.std.specs.Io.{StartsWith};
 ghost use Rattle.std.specs.Io.KnownBytes.{Appends};
 ghost use Rattle.pad_edge.specs.Count.{Rose};
-ghost use Rattle.pad_output.specs.Output.{AppendsPart};
+ghost use Rattle.pad_output.specs.Output.{AppendsPart, AppendsSome};
 ghost use Rattle.disk_volume.specs.Disk.{reads};
 ghost use Rattle.disk_volume.specs.Moments.{OnlySyncs};
 ghost use Rattle.log_format.specs.declared.damage.Damage.{Damage};
 ghost use Rattle.log_format.specs.declared.damage.Damage.TheVariants.{Entry};
-ghost use Rattle.log_format.specs.declared.form.Form.{Form};
-ghost use Rattle.keeper_channel.specs.Chan.{IsList};
-ghost use Rattle.keeper_channel.specs.Slot.{HasDamage, IsSlot, IsSlotOf};
+ghost use Rattle.keeper_entry.specs.Entry.{IsEntry};
+ghost use Rattle.keeper_channel.specs.Slot.{IsSlot, IsSlotOf};
 ghost use Rattle.keeper_table.specs.Files.{file_one, file_two, OfChannel};
+ghost use Rattle.pad_log.specs.Channel.{IsDamageOf, IsListOf};
 ghost use Rattle.pad_log.specs.Lines.{line_of_entry, line_of_count, log_text};
+ghost use Rattle.pad_log.specs.Log.{IsLogText, IsLogPart, OfEachHeld};
 
 use crate::lines::{count_line, entry_line};
 use crate::refused::LogRefused;
@@ -24,9 +26,9 @@ use pad_edge::Sink;
 use pad_output::write_all;
 use std::alloc::Global;
 
-/// Writes the log of a channel: a line for each entry of its files, and one that tells how many there are. The files are only synced
-/// and read. Refusals come in this order: `Store` if the load failed; `Damaged` exactly by the files, and then nothing is written;
-/// `Store` or `Write` if a read or a write failed, and then a part from the front is written.
+/// Writes the log of a channel: a line for each entry of its files, and one that tells how many there are. The files are only synced.
+/// At a refusal nothing is written, or a part from the front. `Store` comes only if a call of the volume failed, `Write` only if a write
+/// did. Where the volume tells what the files hold, `Damaged` names their damage, and a channel that is damaged has nothing written.
 pub fn write_channel<O: Ledger, G: Ledger, V: Volume, S: Sink>(
     alloc: Global,
     volume: &mut V,
@@ -34,10 +36,11 @@ pub fn write_channel<O: Ledger, G: Ledger, V: Volume, S: Sink>(
     output: &mut S,
 ) -> Result<(), LogRefused>
     requires apart { (file : List ℕ) → G.owns (file_two channel.now) file → O.owns (file_one channel.now) file → ⊥ }
-    ensures whole { V.tells → OnOk result ((list : List (List ℕ)) × IsList (O.opens_as Form.One (file_one channel.now)) (G.opens_as Form.Two (file_two channel.now)) (reads (V.disk volume.old)) list × Appends (S.written output.old) (S.written output.new) (log_text list)) }
-    ensures part { V.tells → OnErr result ((output.new ≡ output.old) ⊎ ((list : List (List ℕ)) × IsList (O.opens_as Form.One (file_one channel.now)) (G.opens_as Form.Two (file_two channel.now)) (reads (V.disk volume.old)) list × AppendsPart (S.written output.old) (S.written output.new) (log_text list))) }
-    ensures damaged { V.tells → (damage : Damage) → IsErrOf result (LogRefused.Damaged damage) → HasDamage (O.opens_as Form.One (file_one channel.now)) (G.opens_as Form.Two (file_two channel.now)) (O.damage Form.One (file_one channel.now)) (G.damage Form.Two (file_two channel.now)) (reads (V.disk volume.old)) damage }
-    ensures spoiled { V.tells → (damage : Damage) → HasDamage (O.opens_as Form.One (file_one channel.now)) (G.opens_as Form.Two (file_two channel.now)) (O.damage Form.One (file_one channel.now)) (G.damage Form.Two (file_two channel.now)) (reads (V.disk volume.old)) damage → OnOk result ⊥ × (IsErrOf result LogRefused.Write → ⊥) × (output.new ≡ output.old) }
+    ensures whole { OnOk result (AppendsSome (IsLogText V.tells (IsListOf O.opens_as G.opens_as O.damage G.damage channel.now (reads (V.disk volume.old)))) (S.written output.old) (S.written output.new)) }
+    ensures part { OnErr result ((output.new ≡ output.old)
+        ⊎ AppendsSome (IsLogPart V.tells (λ part. (list : List (List ℕ)) × IsListOf O.opens_as G.opens_as O.damage G.damage channel.now (reads (V.disk volume.old)) list × StartsWith (log_text list) part)) (S.written output.old) (S.written output.new)) }
+    ensures damaged { V.tells → (damage : Damage) → IsErrOf result (LogRefused.Damaged damage) → IsDamageOf O.opens_as G.opens_as O.damage G.damage channel.now (reads (V.disk volume.old)) damage }
+    ensures spoiled { V.tells → (damage : Damage) → IsDamageOf O.opens_as G.opens_as O.damage G.damage channel.now (reads (V.disk volume.old)) damage → OnOk result ⊥ × (IsErrOf result LogRefused.Write → ⊥) × (output.new ≡ output.old) }
     ensures syncs { V.tells → OnlySyncs (OfChannel O.owns G.owns channel.now) (V.disk volume.old) (V.disk volume.new) }
     ensures follows { V.follows volume.old volume.new }
     ensures store { IsErrOf result LogRefused.Store → Rose (V.faults volume.old) (V.faults volume.new) }
@@ -72,10 +75,11 @@ fn write_files<O: Ledger, G: Ledger, V: Volume, S: Sink>(
     requires one { one.now ≡ file_one channel.now }
     requires two { two.now ≡ file_two channel.now }
     requires apart { (file : List ℕ) → G.owns (file_two channel.now) file → O.owns (file_one channel.now) file → ⊥ }
-    ensures whole { V.tells → OnOk result ((list : List (List ℕ)) × IsList (O.opens_as Form.One (file_one channel.now)) (G.opens_as Form.Two (file_two channel.now)) (reads (V.disk volume.old)) list × Appends (S.written output.old) (S.written output.new) (log_text list)) }
-    ensures part { V.tells → OnErr result ((output.new ≡ output.old) ⊎ ((list : List (List ℕ)) × IsList (O.opens_as Form.One (file_one channel.now)) (G.opens_as Form.Two (file_two channel.now)) (reads (V.disk volume.old)) list × AppendsPart (S.written output.old) (S.written output.new) (log_text list))) }
-    ensures damaged { V.tells → (damage : Damage) → IsErrOf result (LogRefused.Damaged damage) → HasDamage (O.opens_as Form.One (file_one channel.now)) (G.opens_as Form.Two (file_two channel.now)) (O.damage Form.One (file_one channel.now)) (G.damage Form.Two (file_two channel.now)) (reads (V.disk volume.old)) damage }
-    ensures spoiled { V.tells → (damage : Damage) → HasDamage (O.opens_as Form.One (file_one channel.now)) (G.opens_as Form.Two (file_two channel.now)) (O.damage Form.One (file_one channel.now)) (G.damage Form.Two (file_two channel.now)) (reads (V.disk volume.old)) damage → OnOk result ⊥ × (IsErrOf result LogRefused.Write → ⊥) × (output.new ≡ output.old) }
+    ensures whole { OnOk result (AppendsSome (IsLogText V.tells (IsListOf O.opens_as G.opens_as O.damage G.damage channel.now (reads (V.disk volume.old)))) (S.written output.old) (S.written output.new)) }
+    ensures part { OnErr result ((output.new ≡ output.old)
+        ⊎ AppendsSome (IsLogPart V.tells (λ part. (list : List (List ℕ)) × IsListOf O.opens_as G.opens_as O.damage G.damage channel.now (reads (V.disk volume.old)) list × StartsWith (log_text list) part)) (S.written output.old) (S.written output.new)) }
+    ensures damaged { V.tells → (damage : Damage) → IsErrOf result (LogRefused.Damaged damage) → IsDamageOf O.opens_as G.opens_as O.damage G.damage channel.now (reads (V.disk volume.old)) damage }
+    ensures spoiled { V.tells → (damage : Damage) → IsDamageOf O.opens_as G.opens_as O.damage G.damage channel.now (reads (V.disk volume.old)) damage → OnOk result ⊥ × (IsErrOf result LogRefused.Write → ⊥) × (output.new ≡ output.old) }
     ensures syncs { V.tells → OnlySyncs (OfChannel O.owns G.owns channel.now) (V.disk volume.old) (V.disk volume.new) }
     ensures follows { V.follows volume.old volume.new }
     ensures store { IsErrOf result LogRefused.Store → Rose (V.faults volume.old) (V.faults volume.new) }
@@ -105,8 +109,8 @@ fn refused_for(refused: LoadRefused) -> LogRefused
     }
 }
 
-/// Writes the log of a channel that is loaded, entry by entry, with memory for one entry at a time. `Damaged` comes only over a volume
-/// that does not tell, if the bytes that came hold no entry.
+/// Writes the log of a channel that is loaded. At a refusal a part from the front is written. `Damaged` comes only over a volume that
+/// does not tell what its files hold, and names an entry.
 pub fn write_log<O: Ledger, G: Ledger, V: Volume, S: Sink>(
     alloc: Global,
     volume: &mut V,
@@ -115,10 +119,9 @@ pub fn write_log<O: Ledger, G: Ledger, V: Volume, S: Sink>(
 ) -> Result<(), LogRefused>
     requires live { IsSlotOf (λ log. IsTrue (O.live log)) (λ log. IsTrue (G.live log)) O.count G.count slot.now }
     requires slot { V.tells → (doubt : (List ℕ → List ℕ) → List (List ℕ)) × (held : List (List ℕ)) × (suspense : List (List ℕ)) × IsSlot O.holds G.holds doubt slot.now held suspense (V.disk volume.old) }
-    ensures whole { V.tells → (doubt : (List ℕ → List ℕ) → List (List ℕ)) (held suspense : List (List ℕ)) → IsSlot O.holds G.holds doubt slot.now held suspense (V.disk volume.old)
-        → OnOk result (Appends (S.written output.old) (S.written output.new) (log_text held)) }
-    ensures part { V.tells → (doubt : (List ℕ → List ℕ) → List (List ℕ)) (held suspense : List (List ℕ)) → IsSlot O.holds G.holds doubt slot.now held suspense (V.disk volume.old)
-        → OnErr result (AppendsPart (S.written output.old) (S.written output.new) (log_text held)) }
+    ensures whole { OnOk result (AppendsSome (IsLogText V.tells (λ list. OfEachHeld O.holds G.holds slot.now (V.disk volume.old) (λ held. list ≡ held))) (S.written output.old) (S.written output.new)) }
+    ensures part { OnErr result (AppendsSome (IsLogPart V.tells (λ part. OfEachHeld O.holds G.holds slot.now (V.disk volume.old) (λ held. StartsWith (log_text held) part)))
+        (S.written output.old) (S.written output.new)) }
     ensures damaged { (damage : Damage) → IsErrOf result (LogRefused.Damaged damage) → (index : ℕ) × (damage ≡ Entry index) }
     ensures sound { V.tells → (damage : Damage) → IsErrOf result (LogRefused.Damaged damage) → ⊥ }
     ensures disk { V.tells → V.disk volume.new ≡ V.disk volume.old }
@@ -131,6 +134,7 @@ pub fn write_log<O: Ledger, G: Ledger, V: Volume, S: Sink>(
     ensures writes_later { S.faults output.old ≤ S.faults output.new }
 {
     let total = slot.index.count();
+    // One entry at a time, so that a long log takes no more memory than its longest entry.
     for index in 0..total {
         write_entry(alloc, volume, slot, index, output)?;
     }
@@ -148,10 +152,11 @@ fn write_entry<O: Ledger, G: Ledger, V: Volume, S: Sink>(
     requires live { IsSlotOf (λ log. IsTrue (O.live log)) (λ log. IsTrue (G.live log)) O.count G.count slot.now }
     requires index { index < slot.now.index.count }
     requires slot { V.tells → (doubt : (List ℕ → List ℕ) → List (List ℕ)) × (held : List (List ℕ)) × (suspense : List (List ℕ)) × IsSlot O.holds G.holds doubt slot.now held suspense (V.disk volume.old) }
-    ensures whole { V.tells → (doubt : (List ℕ → List ℕ) → List (List ℕ)) (held suspense : List (List ℕ)) → IsSlot O.holds G.holds doubt slot.now held suspense (V.disk volume.old)
-        → (payload : List ℕ) → slice_get held index ≡ Some payload → OnOk result (Appends (S.written output.old) (S.written output.new) (line_of_entry index payload)) }
-    ensures part { V.tells → (doubt : (List ℕ → List ℕ) → List (List ℕ)) (held suspense : List (List ℕ)) → IsSlot O.holds G.holds doubt slot.now held suspense (V.disk volume.old)
-        → (payload : List ℕ) → slice_get held index ≡ Some payload → OnErr result (AppendsPart (S.written output.old) (S.written output.new) (line_of_entry index payload)) }
+    ensures whole { OnOk result ((payload : List ℕ) × IsEntry payload × (V.tells → OfEachHeld O.holds G.holds slot.now (V.disk volume.old) (λ held. slice_get held index ≡ Some payload))
+        × Appends (S.written output.old) (S.written output.new) (line_of_entry index payload)) }
+    ensures part { OnErr result ((output.new ≡ output.old)
+        ⊎ ((payload : List ℕ) × IsEntry payload × (V.tells → OfEachHeld O.holds G.holds slot.now (V.disk volume.old) (λ held. slice_get held index ≡ Some payload))
+        × AppendsPart (S.written output.old) (S.written output.new) (line_of_entry index payload))) }
     ensures damaged { (damage : Damage) → IsErrOf result (LogRefused.Damaged damage) → (index : ℕ) × (damage ≡ Entry index) }
     ensures sound { V.tells → (damage : Damage) → IsErrOf result (LogRefused.Damaged damage) → ⊥ }
     ensures disk { V.tells → V.disk volume.new ≡ V.disk volume.old }

@@ -14,7 +14,7 @@ use Rattle.pad_top.specs.declared.status.Status.TheVariants as status
 use Rattle.pad_top.specs.Input.{most_bytes}
 use Rattle.pad_top.specs.Inside.Told.{IsToldAs}
 use Rattle.pad_lines.specs.Line.{lines_of}
-use Rattle.pad_top.specs.Received.{IsReceived, HasFewNames}
+use Rattle.pad_top.specs.Received.{AreReadAs, HasFewNames}
 use Rattle.pad_top.specs.Inside.Refusal.{IsReplayRefusal, status_of}
 use Rattle.pad_top.specs.Replay.{IsReplayed}
 use Rattle.pad_top.specs.Run.{Ends, IsCutShort}
@@ -37,7 +37,7 @@ tells_best messages unreadable output differ report none =
     (nothing_overtook first_base (reverse messages) report.choice (differ_same messages (reverse messages) turned differ) report.is_choice none)
 
 -- the report of what was received is that of the input
-pub replayed : (input output : List ℕ) (messages : List Message) (unreadable : ℕ) → length input ≤ most_bytes → IsReceived (lines_of input) messages unreadable
+pub replayed : (input output : List ℕ) (messages : List Message) (unreadable : ℕ) → length input ≤ most_bytes → AreReadAs (lines_of input) messages unreadable
     → HasFewNames messages → (NamesDiffer messages → IsReport first_base messages unreadable output) → IsReplayed input output
 replayed input output messages unreadable short received few report = record {
   short = short;

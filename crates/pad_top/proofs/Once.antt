@@ -9,7 +9,7 @@ use Rattle.pad_message.proofs.CallerLemmas.{spells_one}
 use Rattle.pad_model.specs.Base.{first_base}
 use Rattle.pad_model.specs.Count.{IsKnown}
 use Rattle.pad_list.proofs.CallerLemmas.{contains_head, contains_cases}
-use Rattle.pad_top.specs.Received.{LineSpells, ReadsAs, IsReceived, HasFewNames, IsTaken, IsOneTooMany}
+use Rattle.pad_top.specs.Received.{LineSpells, ReadsAs, AreReadAs, HasFewNames, IsTaken, IsOneTooMany}
 use Rattle.pad_top.specs.Laws.{ReceivedOnce, EndsOnce}
 
 -- a line reads as one outcome
@@ -57,7 +57,7 @@ read-append (Some message ∷ outcomes) others = ap (λ messages. message ∷ me
 
 -- what lines are received as begins with what the first lines are received as
 messages_begin : (before : List (List ℕ)) (line : List ℕ) (after : List (List ℕ)) (messages all : List Message) (unreadable number : ℕ) (message : Message)
-    → IsReceived before messages unreadable → LineSpells line message → IsReceived (before ++ line ∷ after) all number → (rest : List Message) × (all ≡ messages ++ message ∷ rest)
+    → AreReadAs before messages unreadable → LineSpells line message → AreReadAs (before ++ line ∷ after) all number → (rest : List Message) × (all ≡ messages ++ message ∷ rest)
 messages_begin before line after messages all unreadable number message first spelled whole =
     let rest = outcomes_begin before line after first.outcomes message whole.outcomes first.each spelled whole.each in
     (read_of rest.0, whole.read ∙ ap read_of rest.1 ∙ read-append first.outcomes (Some message ∷ rest.0) ∙ ap (λ front. front ++ message ∷ read_of rest.0) (sym first.read))

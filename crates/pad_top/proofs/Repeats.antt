@@ -9,7 +9,7 @@ use Rattle.pad_model.specs.Path.{NamesDiffer}
 use Rattle.pad_model.specs.Report.{IsReport}
 use Rattle.pad_list.proofs.CallerLemmas.{contains_more, contains_cases}
 use Rattle.pad_model.proofs.CallerLemmas.{repeat_changes_no_report}
-use Rattle.pad_top.specs.Received.{ReadsAs, IsReceived, HasFewNames}
+use Rattle.pad_top.specs.Received.{ReadsAs, AreReadAs, HasFewNames}
 use Rattle.pad_top.specs.Replay.{IsReplayed}
 use Rattle.pad_top.specs.Laws.{RepeatsChangeNothing}
 use Rattle.pad_top.proofs.Once.{one_list, one_outcome, read_of, read-append}
@@ -38,7 +38,7 @@ others-append : (outcomes others : List (Option Message)) → others_of (outcome
 others-append outcomes others = sum_by-append (λ o. cond (is_none o) 1 0) outcomes others
 
 -- what is received behind first lines
-behind : (before after : List (List ℕ)) (messages all : List Message) (unreadable number : ℕ) → IsReceived before messages unreadable → IsReceived (before ++ after) all number
+behind : (before after : List (List ℕ)) (messages all : List Message) (unreadable number : ℕ) → AreReadAs before messages unreadable → AreReadAs (before ++ after) all number
     → (lasts : List (Option Message)) × AllZip ReadsAs after lasts × (all ≡ messages ++ read_of lasts) × (number ≡ unreadable + others_of lasts)
 behind before after messages all unreadable number first whole =
     let parts = split before after whole.outcomes whole.each in
@@ -49,8 +49,8 @@ behind before after messages all unreadable number first whole =
       whole.others ∙ ap others_of (parts.2 ∙ ap (λ os. os ++ parts.1) same) ∙ others-append first.outcomes parts.1 ∙ ap (λ n. n + others_of parts.1) (sym first.others),
     )
 
-received : (before after : List (List ℕ)) (messages : List Message) (unreadable : ℕ) (lasts : List (Option Message)) → IsReceived before messages unreadable → AllZip ReadsAs after lasts
-    → IsReceived (before ++ after) (messages ++ read_of lasts) (unreadable + others_of lasts)
+received : (before after : List (List ℕ)) (messages : List Message) (unreadable : ℕ) (lasts : List (Option Message)) → AreReadAs before messages unreadable → AllZip ReadsAs after lasts
+    → AreReadAs (before ++ after) (messages ++ read_of lasts) (unreadable + others_of lasts)
 received before after messages unreadable lasts first each = record {
   outcomes = first.outcomes ++ lasts;
   each = join before after first.outcomes lasts first.each each;
@@ -89,11 +89,11 @@ repeats_change_nothing input other output before after line messages unreadable 
   where
     forth : IsReplayed input output → IsReplayed other output
     forth one =
-        let rest = behind before after messages one.messages unreadable one.unreadable first (subst (λ ls. IsReceived ls one.messages one.unreadable) is one.taken.received) in
+        let rest = behind before after messages one.messages unreadable one.unreadable first (subst (λ ls. AreReadAs ls one.messages one.unreadable) is one.taken.received) in
         let more = messages ++ message ∷ read_of rest.0 in
         let fewer : HasFewNames (messages ++ read_of rest.0) = subst HasFewNames rest.2 one.taken.names in
         replayed other output more (unreadable + others_of rest.0) small
-        (subst (λ ls. IsReceived ls more (unreadable + others_of rest.0)) (sym was) (received before (line ∷ after) messages unreadable (Some message ∷ rest.0) first (spelled, rest.1)))
+        (subst (λ ls. AreReadAs ls more (unreadable + others_of rest.0)) (sym was) (received before (line ∷ after) messages unreadable (Some message ∷ rest.0) first (spelled, rest.1)))
         (few_of (messages ++ read_of rest.0) more (λ x has. from_more messages (read_of rest.0) message x old has) fewer)
         (λ differ.
         let differs = differ_of more (messages ++ read_of rest.0) (λ x has. to_more messages (read_of rest.0) message x has) differ in
@@ -103,7 +103,7 @@ repeats_change_nothing input other output before after line messages unreadable 
 
     back : IsReplayed other output → IsReplayed input output
     back two =
-        let all = behind before (line ∷ after) messages two.messages unreadable two.unreadable first (subst (λ ls. IsReceived ls two.messages two.unreadable) was two.taken.received) in
+        let all = behind before (line ∷ after) messages two.messages unreadable two.unreadable first (subst (λ ls. AreReadAs ls two.messages two.unreadable) was two.taken.received) in
         go all.0 all.1 all.2 all.3
       where
         go : (lasts : List (Option Message)) → AllZip ReadsAs (line ∷ after) lasts → two.messages ≡ messages ++ read_of lasts → two.unreadable ≡ unreadable + others_of lasts → IsReplayed input output
@@ -118,7 +118,7 @@ repeats_change_nothing input other output before after line messages unreadable 
                 let as_many : two.unreadable ≡ unreadable + others_of lasts = number ∙ ap (λ p. unreadable + others_of (p ∷ lasts)) same in
                 let few : HasFewNames more = subst HasFewNames all_are two.taken.names in
                 replayed input output (messages ++ read_of lasts) (unreadable + others_of lasts) short
-                (subst (λ ls. IsReceived ls (messages ++ read_of lasts) (unreadable + others_of lasts)) (sym is) (received before after messages unreadable lasts first each))
+                (subst (λ ls. AreReadAs ls (messages ++ read_of lasts) (unreadable + others_of lasts)) (sym is) (received before after messages unreadable lasts first each))
                 (few_of more (messages ++ read_of lasts) (λ x has. to_more messages (read_of lasts) message x has) few)
                 (λ differ.
                 let differs = differ_of (messages ++ read_of lasts) more (λ x has. from_more messages (read_of lasts) message x old has) differ in

@@ -6,7 +6,7 @@ use Rattle.pad_message.specs.declared.message.Message.{Message}
 use Rattle.pad_top.specs.declared.refused.ReplayRefused.{ReplayRefused}
 use Rattle.pad_top.specs.declared.refused.ReplayRefused.TheVariants as refused
 use Rattle.pad_lines.specs.Line.{lines_of}
-use Rattle.pad_top.specs.Received.{LineSpells, ReadsAs, IsReceived, HasFewNames, Reaches}
+use Rattle.pad_top.specs.Received.{LineSpells, ReadsAs, AreReadAs, HasFewNames, Reaches}
 use Rattle.pad_chain.specs.State.{View}
 use Rattle.pad_top.specs.Inside.Progress.{Progress, IsAt, IsWholeAt, progress_after}
 use Rattle.pad_top.specs.Inside.Refusal.{IsMessageRefusal, IsLineRefusal, IsLinesRefusal}
@@ -15,7 +15,7 @@ use Rattle.pad_top.specs.Inside.Refusal.{IsMessageRefusal, IsLineRefusal, IsLine
 pub record IsSoFar (text rest : List ℕ) (progress : Progress) : Type 0 where
   pub before : List (List ℕ)
   pub parts : lines_of text ≡ before ++ lines_of rest
-  pub received : IsReceived before progress.messages progress.unreadable
+  pub received : AreReadAs before progress.messages progress.unreadable
   pub room : progress.unreadable + length rest ≤ length text
 
 -- nothing is received of no lines
@@ -46,15 +46,15 @@ none-push : (outcomes : List (Option Message)) (outcome : Option Message) → co
 none-push outcomes outcome = sum_by-append (λ o. cond (is_none o) 1 0) outcomes (outcome ∷ [])
 
 -- one line more is received
-IsReceived-push : (lines : List (List ℕ)) (line : List ℕ) (old : Progress) (outcome : Option Message) → IsReceived lines old.messages old.unreadable → ReadsAs line outcome
-    → IsReceived (lines ++ line ∷ []) (progress_after outcome old).messages (progress_after outcome old).unreadable
-IsReceived-push lines line old None received reads = record {
+AreReadAs-push : (lines : List (List ℕ)) (line : List ℕ) (old : Progress) (outcome : Option Message) → AreReadAs lines old.messages old.unreadable → ReadsAs line outcome
+    → AreReadAs (lines ++ line ∷ []) (progress_after outcome old).messages (progress_after outcome old).unreadable
+AreReadAs-push lines line old None received reads = record {
   outcomes = received.outcomes ++ None ∷ [];
   each = AllZip-push ReadsAs lines received.outcomes line None received.each reads;
   read = received.read ∙ sym (read-push received.outcomes None ∙ append-nil _);
   others = ap (λ n. n + 1) received.others ∙ sym (none-push received.outcomes None);
 }
-IsReceived-push lines line old (Some message) received reads = record {
+AreReadAs-push lines line old (Some message) received reads = record {
   outcomes = received.outcomes ++ Some message ∷ [];
   each = AllZip-push ReadsAs lines received.outcomes line (Some message) received.each reads;
   read = ap (λ messages. messages ++ message ∷ []) received.read ∙ sym (read-push received.outcomes (Some message));
@@ -66,7 +66,7 @@ pub IsSoFar-more : (text rest line after : List ℕ) (old : Progress) (outcome :
 IsSoFar-more text rest line after old outcome so_far split shorter reads = record {
   before = so_far.before ++ line ∷ [];
   parts = so_far.parts ∙ ap (λ lines. so_far.before ++ lines) split ∙ sym (append_assoc so_far.before (line ∷ []) (lines_of after));
-  received = IsReceived-push so_far.before line old outcome so_far.received reads;
+  received = AreReadAs-push so_far.before line old outcome so_far.received reads;
   room = omega (arith, one_more outcome, so_far.room, shorter);
 }
   where
@@ -75,9 +75,9 @@ IsSoFar-more text rest line after old outcome so_far split shorter reads = recor
     one_more (Some message) = omega arith
 
 -- all lines are received
-pub IsReceived-end : (text rest : List ℕ) (progress : Progress) → IsSoFar text rest progress → lines_of rest ≡ [] → IsReceived (lines_of text) progress.messages progress.unreadable
-IsReceived-end text rest progress so_far none =
-    subst (λ lines. IsReceived lines progress.messages progress.unreadable) (sym (so_far.parts ∙ ap (λ lines. so_far.before ++ lines) none ∙ append-nil so_far.before)) so_far.received
+pub AreReadAs-end : (text rest : List ℕ) (progress : Progress) → IsSoFar text rest progress → lines_of rest ≡ [] → AreReadAs (lines_of text) progress.messages progress.unreadable
+AreReadAs-end text rest progress so_far none =
+    subst (λ lines. AreReadAs lines progress.messages progress.unreadable) (sym (so_far.parts ∙ ap (λ lines. so_far.before ++ lines) none ∙ append-nil so_far.before)) so_far.received
 
 -- ---- the chain that received them
 
@@ -103,7 +103,7 @@ pub here_few : (text rest : List ℕ) (chain : View) (unreadable : ℕ) → IsHe
 here_few text rest chain unreadable here = omega (arith, here.so_far.room, here.at.others)
 
 pub here_end : (text rest : List ℕ) (chain : View) (unreadable : ℕ) → IsHere text rest chain unreadable → lines_of rest ≡ [] → IsWholeAt text chain unreadable
-here_end text rest chain unreadable here none = (here.progress, IsReceived-end text rest here.progress here.so_far none, here.at)
+here_end text rest chain unreadable here none = (here.progress, AreReadAs-end text rest here.progress here.so_far none, here.at)
 
 -- the lines before one are taken
 reaches : (text rest line after : List ℕ) (progress : Progress) (message : Message) → IsSoFar text rest progress → lines_of rest ≡ line ∷ lines_of after

@@ -5,13 +5,13 @@ use Rattle.pad_model.specs.Laws.{SameMembers}
 use Rattle.pad_model.specs.Path.{NamesDiffer}
 use Rattle.pad_top.specs.Input.{most_bytes}
 use Rattle.pad_lines.specs.Line.{lines_of}
-use Rattle.pad_top.specs.Received.{LineSpells, IsReceived}
+use Rattle.pad_top.specs.Received.{LineSpells, AreReadAs}
 use Rattle.pad_top.specs.Replay.{IsReplayed, IsPastLimit}
 
 -- lines are received as one list of messages, with one number of others
 abbrev pub ReceivedOnce : Type 0
 ReceivedOnce = (lines : List (List ℕ)) (messages other : List Message) (unreadable number : ℕ)
-    → IsReceived lines messages unreadable → IsReceived lines other number → (messages ≡ other) × (unreadable ≡ number)
+    → AreReadAs lines messages unreadable → AreReadAs lines other number → (messages ≡ other) × (unreadable ≡ number)
 
 -- an input that has a report is past no limit
 abbrev pub EndsOnce : Type 0
@@ -22,7 +22,7 @@ EndsOnce = (input output : List ℕ) → IsReplayed input output → ¬ (IsPastL
 abbrev pub RepeatsChangeNothing : Type 0
 RepeatsChangeNothing = (input other output : List ℕ) (before after : List (List ℕ)) (line : List ℕ) (messages : List Message) (unreadable : ℕ) (message : Message)
     → lines_of input ≡ before ++ after → lines_of other ≡ before ++ line ∷ after → length input ≤ most_bytes → length other ≤ most_bytes
-    → IsReceived before messages unreadable → Contains messages message → LineSpells line message
+    → AreReadAs before messages unreadable → Contains messages message → LineSpells line message
     → IsReplayed input output ↔ IsReplayed other output
 
 -- The lines of two inputs read as the same messages, in any order and however often. Where no two different messages

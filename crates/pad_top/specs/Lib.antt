@@ -2,7 +2,6 @@ pub mod Input
 pub mod Inside
 pub mod Laws
 pub mod Log
-pub mod Output
 pub mod Received
 pub mod Replay
 pub mod Run

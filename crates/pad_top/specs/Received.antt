@@ -25,7 +25,7 @@ ReadsAs line None = (message : Message) → ¬ (LineSpells line message)
 ReadsAs line (Some message) = LineSpells line message
 
 -- the lines read as these messages, in order, and so many of them as none
-pub record IsReceived (lines : List (List ℕ)) (messages : List Message) (unreadable : ℕ) : Type 0 where
+pub record AreReadAs (lines : List (List ℕ)) (messages : List Message) (unreadable : ℕ) : Type 0 where
   pub outcomes : List (Option Message)
   pub each : AllZip ReadsAs lines outcomes
   pub read : messages ≡ filter_map (λ outcome. outcome) outcomes
@@ -37,7 +37,7 @@ HasFewNames messages = (names : List Name) → NoRepeat names → ((name : Name)
 
 -- the lines read as these messages and this many others, and their names are no more than a replay takes
 pub record IsTaken (lines : List (List ℕ)) (messages : List Message) (unreadable : ℕ) : Type 0 where
-  pub received : IsReceived lines messages unreadable
+  pub received : AreReadAs lines messages unreadable
   pub names : HasFewNames messages
 
 -- the name of the message would be one too many

@@ -1,8 +1,8 @@
 -- How a run ends whose words ask for no log.
 use Rattle.std.specs.Prelude.{◌≡◌, ℕ, List, [], Option, IfSome}
+use Rattle.pad_output.specs.Output.{AppendsPartOfSome}
 use Rattle.pad_top.specs.declared.status.Status.{Status}
 use Rattle.pad_top.specs.declared.status.Status.TheVariants as status
-use Rattle.pad_top.specs.Output.{WritesPart}
 use Rattle.pad_top.specs.Replay.{IsReplayed, IsPastLimit}
 use Rattle.pad_top.specs.Status.{status_line}
 use Rattle.pad_top.specs.Words.{IsReplay, IsCommand}
@@ -21,4 +21,4 @@ Ends words input read_failed status.Damaged output = ⊥
 
 -- a run that a failed write stopped wrote a part from the front of what it would have written
 abbrev pub IsCutShort : List (List ℕ) → Option (List ℕ) → Type 0 → Option (List ℕ) → Option (List ℕ) → Type 0
-IsCutShort words input read_failed old new = (status : Status) × WritesPart (Ends words input read_failed status) old new
+IsCutShort words input read_failed old new = (status : Status) × AppendsPartOfSome (Ends words input read_failed status) old new

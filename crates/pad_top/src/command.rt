@@ -1,11 +1,11 @@
 ghost use Rattle.std.specs.Prelude.{◌≡◌, ◌≢◌, ◌<◌, ◌⊎◌, List, ℕ, map, string_bytes, IfSome, IsSomeAnd};
 ghost use Rattle.std.specs.Io.KnownBytes.{IsAtEnd};
 ghost use Rattle.pad_edge.specs.Count.{Rose};
+ghost use Rattle.pad_output.specs.Output.{AppendsSome};
 ghost use Rattle.disk_volume.specs.Disk.{reads};
 ghost use Rattle.disk_volume.specs.Moments.{OnlySyncs};
 ghost use Rattle.log_format.specs.declared.damage.Damage.{Damage};
 ghost use Rattle.pad_top.specs.Log.{IsChannelDamage, IsChannelFile, LogEnds, LogIsCutShort};
-ghost use Rattle.pad_top.specs.Output.{Writes};
 ghost use Rattle.pad_top.specs.Replay.{IsReplayed, IsPastLimit};
 ghost use Rattle.pad_top.specs.Run.{Ends, IsCutShort};
 ghost use Rattle.pad_top.specs.Words.{IsReplay, IsLog, AsksLog};
@@ -34,29 +34,27 @@ pub fn run<I: Source, O: Sink, V: Volume>(
 ) -> Status
     // Done to its end, a replay has written the report of what the lines of its whole input read as.
     ensures report { IsReplay (map string_bytes words.now) → result ≡ Status.Ok → IfSome (I.left input.old) (λ bytes.
-        Writes (IsReplayed bytes) (O.written output.old) (O.written output.new)) }
+        AppendsSome (IsReplayed bytes) (O.written output.old) (O.written output.new)) }
     ensures ended { IsReplay (map string_bytes words.now) → result ≡ Status.Ok → IsAtEnd (I.left input.new) }
 
     // How it ends: each status comes where `Ends` says so, with all written that is said there. After a failed write a
     // part from the front of that is written.
     ensures whole { ¬ (AsksLog (map string_bytes words.now)) → result ≢ Status.WriteFault →
         let read_failed = Rose (I.faults input.old) (I.faults input.new) in
-        Writes (Ends (map string_bytes words.now) (I.left input.old) read_failed result)
+        AppendsSome (Ends (map string_bytes words.now) (I.left input.old) read_failed result)
         (O.written output.old) (O.written output.new) }
     ensures part { ¬ (AsksLog (map string_bytes words.now)) → result ≡ Status.WriteFault →
         let read_failed = Rose (I.faults input.old) (I.faults input.new) in
         IsCutShort (map string_bytes words.now) (I.left input.old) read_failed
         (O.written output.old) (O.written output.new) }
 
-    // A log ends where `LogEnds` says so, by the channel's files, with what is said there written.
-    ensures log { V.tells → (channel : List ℕ) → IsLog (map string_bytes words.now) channel → result ≢ Status.WriteFault →
+    // A log ends where `LogEnds` says so, with what is said there written; by the channel's files where the volume tells them.
+    ensures log { (channel : List ℕ) → IsLog (map string_bytes words.now) channel → result ≢ Status.WriteFault →
         let store_failed = Rose (V.faults volume.old) (V.faults volume.new) in
-        Writes (LogEnds channel (reads (V.disk volume.old)) store_failed result) (O.written output.old) (O.written output.new) }
-    ensures log_part { V.tells → (channel : List ℕ) → IsLog (map string_bytes words.now) channel → result ≡ Status.WriteFault →
+        AppendsSome (LogEnds channel V.tells (reads (V.disk volume.old)) store_failed result) (O.written output.old) (O.written output.new) }
+    ensures log_part { (channel : List ℕ) → IsLog (map string_bytes words.now) channel → result ≡ Status.WriteFault →
         let store_failed = Rose (V.faults volume.old) (V.faults volume.new) in
-        LogIsCutShort channel (reads (V.disk volume.old)) store_failed (O.written output.old) (O.written output.new) }
-    ensures spoiled { V.tells → (channel : List ℕ) → IsLog (map string_bytes words.now) channel →
-        (damage : Damage) → IsChannelDamage channel (reads (V.disk volume.old)) damage → result ≢ Status.Ok }
+        LogIsCutShort channel V.tells (reads (V.disk volume.old)) store_failed (O.written output.old) (O.written output.new) }
 
     // Each fault has its cause.
     ensures write_fault { result ≡ Status.WriteFault → Rose (O.faults output.old) (O.faults output.new) }
@@ -80,6 +78,12 @@ pub fn run<I: Source, O: Sink, V: Volume>(
     ensures complete { IsReplay (map string_bytes words.now) → IsSomeAnd (I.left input.old) (λ bytes. ¬ (IsPastLimit bytes))
         → ¬ (Rose (I.faults input.old) (I.faults input.new)) → ¬ (Rose (O.faults output.old) (O.faults output.new))
         → (result ≡ Status.Ok) ⊎ (result ≡ Status.NoMemory) }
+
+    // A log without a failure is done to its end, or wants memory, or is damaged: by its files where the volume tells them.
+    ensures log_complete { (channel : List ℕ) → IsLog (map string_bytes words.now) channel
+        → ¬ (Rose (V.faults volume.old) (V.faults volume.new)) → ¬ (Rose (O.faults output.old) (O.faults output.new))
+        → (result ≡ Status.Ok) ⊎ ((result ≡ Status.NoMemory) ⊎ ((result ≡ Status.Damaged)
+        × (V.tells → (damage : Damage) × IsChannelDamage channel (reads (V.disk volume.old)) damage))) }
 {
     if is_replay(words) {
         return run_replay(alloc, input, output);
@@ -93,11 +97,11 @@ pub fn run<I: Source, O: Sink, V: Volume>(
 /// Writes the report of a replay, or the line that tells why there is none.
 fn run_replay<I: Source, O: Sink>(alloc: Global, input: &mut I, output: &mut O) -> Status
     ensures report { result ≡ Status.Ok → IfSome (I.left input.old) (λ bytes.
-        Writes (IsReplayed bytes) (O.written output.old) (O.written output.new)) }
+        AppendsSome (IsReplayed bytes) (O.written output.old) (O.written output.new)) }
     ensures ended { result ≡ Status.Ok → IsAtEnd (I.left input.new) }
     ensures whole { (words : List (List ℕ)) → IsReplay words → result ≢ Status.WriteFault →
         let read_failed = Rose (I.faults input.old) (I.faults input.new) in
-        Writes (Ends words (I.left input.old) read_failed result) (O.written output.old) (O.written output.new) }
+        AppendsSome (Ends words (I.left input.old) read_failed result) (O.written output.old) (O.written output.new) }
     ensures part { (words : List (List ℕ)) → IsReplay words → result ≡ Status.WriteFault →
         let read_failed = Rose (I.faults input.old) (I.faults input.new) in
         IsCutShort words (I.left input.old) read_failed (O.written output.old) (O.written output.new) }

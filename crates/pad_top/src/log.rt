@@ -1,13 +1,11 @@
-ghost use Rattle.std.specs.Prelude.{◌≡◌, ◌≢◌, ◌≤◌, ◌<◌, ◌⊎◌, ℕ, List, OnOk, OnErr, IsErrOf};
-ghost use Rattle.std.specs.Io.KnownBytes.{Appends};
+ghost use Rattle.std.specs.Prelude.{◌≡◌, ◌≢◌, ◌<◌, ◌⊎◌, OnOk, OnErr, IsErrOf};
 ghost use Rattle.pad_edge.specs.Count.{Rose};
-ghost use Rattle.pad_output.specs.Output.{AppendsPart};
+ghost use Rattle.pad_output.specs.Output.{AppendsSome};
 ghost use Rattle.disk_volume.specs.Disk.{reads};
 ghost use Rattle.disk_volume.specs.Moments.{OnlySyncs};
 ghost use Rattle.log_format.specs.declared.damage.Damage.{Damage};
-ghost use Rattle.pad_log.specs.Lines.{log_text};
-ghost use Rattle.pad_top.specs.Log.{IsChannelList, IsChannelDamage, IsChannelFile, LogEnds, LogIsCutShort};
-ghost use Rattle.pad_top.specs.Output.{Writes};
+ghost use Rattle.pad_log.specs.Log.{IsLogText};
+ghost use Rattle.pad_top.specs.Log.{IsChannelList, IsChannelDamage, IsChannelFile, IsPartOfLog, LogEnds, LogIsCutShort};
 
 use crate::end::end;
 use crate::status::Status;
@@ -19,21 +17,22 @@ use pad_edge::{Failed, Sink};
 use pad_log::{LogRefused, write_channel};
 use std::alloc::Global;
 
-/// Writes the log of a channel in a folder, and tells how that ended. The channel's files are read and synced, and nothing else is
-/// done to the folder.
+/// Writes the log of a channel in a folder, and tells how that ended. The channel's files are only synced, and no other file is touched.
 pub(crate) fn log<O: Sink, V: Volume>(
     alloc: Global,
     words: &LogWords<'_>,
     output: &mut O,
     volume: &mut V,
 ) -> Status
-    ensures whole { V.tells → result ≢ Status.WriteFault →
+    ensures whole { result ≢ Status.WriteFault →
         let store_failed = Rose (V.faults volume.old) (V.faults volume.new) in
-        Writes (LogEnds words.now.channel (reads (V.disk volume.old)) store_failed result) (O.written output.old) (O.written output.new) }
-    ensures part { V.tells → result ≡ Status.WriteFault →
+        AppendsSome (LogEnds words.now.channel V.tells (reads (V.disk volume.old)) store_failed result) (O.written output.old) (O.written output.new) }
+    ensures part { result ≡ Status.WriteFault →
         let store_failed = Rose (V.faults volume.old) (V.faults volume.new) in
-        LogIsCutShort words.now.channel (reads (V.disk volume.old)) store_failed (O.written output.old) (O.written output.new) }
-    ensures spoiled { V.tells → (damage : Damage) → IsChannelDamage words.now.channel (reads (V.disk volume.old)) damage → result ≢ Status.Ok }
+        LogIsCutShort words.now.channel V.tells (reads (V.disk volume.old)) store_failed (O.written output.old) (O.written output.new) }
+    ensures complete { ¬ (Rose (V.faults volume.old) (V.faults volume.new)) → ¬ (Rose (O.faults output.old) (O.faults output.new))
+        → (result ≡ Status.Ok) ⊎ ((result ≡ Status.NoMemory) ⊎ ((result ≡ Status.Damaged)
+        × (V.tells → (damage : Damage) × IsChannelDamage words.now.channel (reads (V.disk volume.old)) damage))) }
     ensures syncs { V.tells → OnlySyncs (IsChannelFile words.now.channel) (V.disk volume.old) (V.disk volume.new) }
     ensures follows { V.follows volume.old volume.new }
     ensures store_fault { result ≡ Status.StoreFault → Rose (V.faults volume.old) (V.faults volume.new) }
@@ -57,12 +56,9 @@ fn write_folder<O: Sink, V: Volume>(
     output: &mut O,
     volume: &mut V,
 ) -> Result<(), LogRefused>
-    ensures whole { V.tells → OnOk result ((list : List (List ℕ)) × IsChannelList words.now.channel (reads (V.disk volume.old)) list × Appends (O.written output.old) (O.written output.new) (log_text list)) }
-    ensures part { V.tells → OnErr result ((output.new ≡ output.old)
-        ⊎ ((list : List (List ℕ)) × IsChannelList words.now.channel (reads (V.disk volume.old)) list × AppendsPart (O.written output.old) (O.written output.new) (log_text list))) }
-    ensures damaged { V.tells → (damage : Damage) → IsErrOf result (LogRefused.Damaged damage)
-        → IsChannelDamage words.now.channel (reads (V.disk volume.old)) damage × (output.new ≡ output.old) }
-    ensures spoiled { V.tells → (damage : Damage) → IsChannelDamage words.now.channel (reads (V.disk volume.old)) damage → OnOk result ⊥ }
+    ensures whole { OnOk result (AppendsSome (IsLogText V.tells (IsChannelList words.now.channel (reads (V.disk volume.old)))) (O.written output.old) (O.written output.new)) }
+    ensures part { OnErr result (AppendsSome (IsPartOfLog words.now.channel V.tells (reads (V.disk volume.old))) (O.written output.old) (O.written output.new)) }
+    ensures damaged { V.tells → (damage : Damage) → IsErrOf result (LogRefused.Damaged damage) → IsChannelDamage words.now.channel (reads (V.disk volume.old)) damage }
     ensures syncs { V.tells → OnlySyncs (IsChannelFile words.now.channel) (V.disk volume.old) (V.disk volume.new) }
     ensures follows { V.follows volume.old volume.new }
     ensures store { IsErrOf result LogRefused.Store → Rose (V.faults volume.old) (V.faults volume.new) }

@@ -11,7 +11,7 @@ use Rattle.pad_chain.specs.State.{View}
 use Rattle.pad_chain.specs.Tie.{StandsFor}
 use Rattle.pad_chain.specs.Knows.{Knows}
 use Rattle.pad_lines.specs.Line.{lines_of}
-use Rattle.pad_top.specs.Received.{IsReceived}
+use Rattle.pad_top.specs.Received.{AreReadAs}
 
 -- what was received so far: the messages, in order, and the number of the other lines
 pub record Progress : Type 0 where
@@ -28,7 +28,7 @@ pub record IsAt (chain : View) (unreadable : ℕ) (progress : Progress) : Type 0
 
 -- it is the chain of what all lines of the text read as
 abbrev pub IsWholeAt : List ℕ → View → ℕ → Type 0
-IsWholeAt text chain unreadable = (progress : Progress) × IsReceived (lines_of text) progress.messages progress.unreadable × IsAt chain unreadable progress
+IsWholeAt text chain unreadable = (progress : Progress) × AreReadAs (lines_of text) progress.messages progress.unreadable × IsAt chain unreadable progress
 
 -- what was received after one more line, by what that reads as
 abbrev pub progress_after : Option Message → Progress → Progress

@@ -4,7 +4,7 @@ use Rattle.pad_log.proofs.writing.write_channel.Goals as goal
 
 -- there was no memory: nothing was done
 pub returns-in-Err-clause-part : goal.returns-in-Err-clause-part
-returns-in-Err-clause-part g c = λ told. inl refl
+returns-in-Err-clause-part g c = inl refl
 
 pub returns-in-Err-clause-syncs : goal.returns-in-Err-clause-syncs
 returns-in-Err-clause-syncs g c = λ told. no_sync

@@ -10,6 +10,11 @@ use Rattle.keeper_channel.specs.Slot.{HasDamage}
 use Rattle.keeper_channel.proofs.CallerLemmas.{slot_weaker}
 use Rattle.keeper_table.specs.Files.{file_one, file_two, OfChannel}
 use Rattle.gated_log.specs.declared.refused.LoadRefused.TheVariants.{Store as LoadStore}
+use Rattle.std.specs.Io.{StartsWith}
+use Rattle.pad_log.specs.Channel.{IsListOf}
+use Rattle.pad_log.specs.Lines.{log_text}
+use Rattle.pad_log.specs.Log.{OfEachHeld}
+use Rattle.pad_log.proofs.CallerLemmas.{text_weaker, part_weaker}
 use Rattle.pad_log.specs.declared.refused.LogRefused.TheVariants.{Store, Write, Damaged as LogDamaged}
 use Rattle.pad_log.proofs.Written.{by_names, names_damage, same_refusal}
 use Rattle.pad_log.proofs.writing.write_files.Goals as goal
@@ -31,20 +36,33 @@ pub write_log-requires-clause-slot : goal.write_log-requires-clause-slot
 write_log-requires-clause-slot g c = λ told. let found = c.in-Ok.ensures.found told in (g.G.Ledger.doubt Two c.args.two.now, found.0, found.1, found.3)
 
 pub returns-in-Ok-clause-whole : goal.returns-in-Ok-clause-whole
-returns-in-Ok-clause-whole g c = λ told.
+returns-in-Ok-clause-whole g c =
     let O = g.O.Ledger in let G = g.G.Ledger in let files = reads (g.V.Volume.disk c.args.volume.now) in
+    let each = OfEachHeld O.holds G.holds c.in-Ok.slot (g.V.Volume.disk c.load_slot.new.volume) in
+    let is_list = IsListOf O.opens_as G.opens_as O.damage G.damage c.args.channel.now files in
+    on_ok_weaker c.write_log.result
+    (text_weaker g.V.Volume.tells (λ list. each (λ held. list ≡ held)) is_list (g.S.Sink.written c.args.output.now) (g.S.Sink.written c.write_log.new.output) (λ told list same.
     let found = c.in-Ok.ensures.found told in
-    let list = by_names (λ one two. IsList (O.opens_as One one) (G.opens_as Two two) files found.0) c.args.one.now c.args.two.now (file_one c.args.channel.now) (file_two c.args.channel.now)
-    c.requires.one c.requires.two (found.2.two, found.2.opened, found.2.is) in
-    on_ok_weaker c.write_log.result (λ all. (found.0, list, all)) (c.write_log.ensures.whole told (G.doubt Two c.args.two.now) found.0 found.1 found.3)
+    let listed = by_names (λ one two. IsList (O.opens_as One one) (G.opens_as Two two) files found.0
+    × ((damage : Damage) → HasDamage (O.opens_as One one) (G.opens_as Two two) (O.damage One one) (G.damage Two two) files damage → ⊥))
+    c.args.one.now c.args.two.now (file_one c.args.channel.now) (file_two c.args.channel.now) c.requires.one c.requires.two
+    ((found.2.two, found.2.opened, found.2.is), c.in-Ok.ensures.undamaged told) in
+    subst is_list (sym (same (G.doubt Two c.args.two.now) found.0 found.1 found.3)) listed)) c.write_log.ensures.whole
 
 pub returns-in-Ok-clause-part : goal.returns-in-Ok-clause-part
-returns-in-Ok-clause-part g c = λ told.
+returns-in-Ok-clause-part g c =
     let O = g.O.Ledger in let G = g.G.Ledger in let files = reads (g.V.Volume.disk c.args.volume.now) in
+    let each = OfEachHeld O.holds G.holds c.in-Ok.slot (g.V.Volume.disk c.load_slot.new.volume) in
+    let is_list = IsListOf O.opens_as G.opens_as O.damage G.damage c.args.channel.now files in
+    on_err_weaker c.write_log.result (λ written. inr
+    (part_weaker g.V.Volume.tells (λ part. each (λ held. StartsWith (log_text held) part)) (λ part. (list : List (List ℕ)) × is_list list × StartsWith (log_text list) part)
+    (g.S.Sink.written c.args.output.now) (g.S.Sink.written c.write_log.new.output) (λ told part starts.
     let found = c.in-Ok.ensures.found told in
-    let list = by_names (λ one two. IsList (O.opens_as One one) (G.opens_as Two two) files found.0) c.args.one.now c.args.two.now (file_one c.args.channel.now) (file_two c.args.channel.now)
-    c.requires.one c.requires.two (found.2.two, found.2.opened, found.2.is) in
-    on_err_weaker c.write_log.result (λ part. inr (found.0, list, part)) (c.write_log.ensures.part told (G.doubt Two c.args.two.now) found.0 found.1 found.3)
+    let listed = by_names (λ one two. IsList (O.opens_as One one) (G.opens_as Two two) files found.0
+    × ((damage : Damage) → HasDamage (O.opens_as One one) (G.opens_as Two two) (O.damage One one) (G.damage Two two) files damage → ⊥))
+    c.args.one.now c.args.two.now (file_one c.args.channel.now) (file_two c.args.channel.now) c.requires.one c.requires.two
+    ((found.2.two, found.2.opened, found.2.is), c.in-Ok.ensures.undamaged told) in
+    (found.0, listed, starts (G.doubt Two c.args.two.now) found.0 found.1 found.3)) written)) c.write_log.ensures.part
 
 pub returns-in-Ok-clause-damaged : goal.returns-in-Ok-clause-damaged
 returns-in-Ok-clause-damaged g c = λ told damage is. absurd (c.write_log.ensures.sound told damage is)
@@ -64,7 +82,7 @@ returns-in-Ok-clause-syncs g c = λ told.
 
 -- the load was refused, and nothing was written
 pub returns-in-Err-clause-part : goal.returns-in-Err-clause-part
-returns-in-Err-clause-part g c = λ told. inl refl
+returns-in-Err-clause-part g c = inl refl
 
 pub returns-in-Err-clause-damaged : goal.returns-in-Err-clause-damaged
 returns-in-Err-clause-damaged g c = λ told damage is.

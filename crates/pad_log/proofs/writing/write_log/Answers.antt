@@ -1,19 +1,21 @@
-use Rattle.std.proofs.Common.{◌≡◌, ◌∙◌, ◌<◌, ◌+◌, [], ◌++◌, append_assoc, ℕ, List, length, get_or, take, inl, inr, refl, sym, ap, subst, arith}
+use Rattle.std.proofs.Common.{◌≡◌, ◌∙◌, ◌+◌, [], ◌∷◌, ◌++◌, ℕ, List, length, inl, inr, refl, sym, ap, subst, arith}
 use Rattle.std.proofs.lemmas.List.{take_all}
-use Rattle.std.proofs.lemmas.Option.{slice_get-get_or}
+use Rattle.std.proofs.lemmas.List.Elements.{All-nil, All-push}
 use Rattle.std.proofs.lemmas.Result.{err_from_is_err_and, on_ok_weaker, on_err_weaker}
 use Rattle.std.proofs.KnownBytes.{Appends-nil, Appends-trans}
+use Rattle.std.specs.Io.{StartsWith}
 use Rattle.std.specs.Io.KnownBytes.{Appends}
 use Rattle.pad_output.specs.Output.{AppendsPart}
 use Rattle.disk_volume.specs.Disk.{Disk}
+use Rattle.keeper_entry.specs.Entry.{IsEntry}
 use Rattle.keeper_channel.specs.Slot.{IsSlot}
 use Rattle.pad_log.specs.Lines.{lines_from, line_of_entry, line_of_count, log_text}
-use Rattle.pad_log.proofs.Written.{lines_more, lines_parts, part_behind, part_of_more}
+use Rattle.pad_log.proofs.Written.{take_more, lines_more, length_more, whole_front, lines_front, first_front, part_behind}
 use Rattle.pad_log.proofs.writing.write_log.Goals as goal
 
 pub loop-index-init : goal.loop-index-init
 loop-index-init g c = record {
-  written = λ told doubt held suspense is. Appends-nil (g.S.Sink.written c.args.output.now);
+  written = ([], All-nil IsEntry, refl, (λ told doubt held suspense is. refl), Appends-nil (g.S.Sink.written c.args.output.now));
   disk = λ told. refl;
   follows = g.met.V.Volume.follows_itself c.args.volume.now;
   faults = refl;
@@ -31,17 +33,19 @@ write_entry-requires-clause-slot g c = λ told.
 pub loop-index-preserved : goal.loop-index-preserved
 loop-index-preserved g c =
     let old = g.S.Sink.written c.args.output.now in let mid = g.S.Sink.written c.loop-index.output in let new = g.S.Sink.written c.write_entry.new.output in
+    let index = c.loop-index.index in
+    let before = c.loop-index.invariant.written in
+    let next = c.in_ok-write_entry.ensures.whole in
     record {
-      written = λ told doubt held suspense is.
-          let index = c.loop-index.index in
-          let here = subst (λ (d : Disk). IsSlot g.O.Ledger.holds g.G.Ledger.holds doubt c.args.slot.now held suspense d) (sym (c.loop-index.invariant.disk told)) is in
-          let within : index < length held = omega (arith, c.count-total.ensures, is.indexed.counted) in
-          let payload : List ℕ = get_or held index [] in
-          let got = slice_get-get_or held index [] within in
-          let line = c.in_ok-write_entry.ensures.whole told doubt held suspense here payload got in
-          let both = Appends-trans old mid new (lines_from 0 (take index held)) (line_of_entry index payload) (c.loop-index.invariant.written told doubt held suspense is) line in
-          let place : index ≡ 0 + index = omega arith in
-          subst (Appends old new) (ap (λ (i : ℕ). lines_from 0 (take index held) ++ line_of_entry i payload) place ∙ lines_more 0 index held payload got) both;
+      written = (
+        before.0 ++ next.0 ∷ [],
+        All-push IsEntry before.0 next.0 before.1 next.1,
+        length_more index before.0 next.0 before.2,
+        (λ told doubt held suspense is.
+            let here = subst (λ (d : Disk). IsSlot g.O.Ledger.holds g.G.Ledger.holds doubt c.args.slot.now held suspense d) (sym (c.loop-index.invariant.disk told)) is in
+            ap (λ (l : List (List ℕ)). l ++ next.0 ∷ []) (before.3 told doubt held suspense is) ∙ take_more index held next.0 (next.2 told doubt held suspense here)),
+        subst (Appends old new) (lines_more index before.0 next.0 before.2) (Appends-trans old mid new (lines_from 0 before.0) (line_of_entry index next.0) before.4 next.3),
+      );
       disk = λ told. c.write_entry.ensures.disk told ∙ c.loop-index.invariant.disk told;
       follows = g.met.V.Volume.follows_on c.args.volume.now c.loop-index.volume c.write_entry.new.volume c.loop-index.invariant.follows c.write_entry.ensures.follows;
       faults = elim c.in_ok-write_entry.ensures.kept [ inl store ↦ absurd (cc) | inr same ↦ same ∙ c.loop-index.invariant.faults ];
@@ -50,38 +54,66 @@ loop-index-preserved g c =
 
 -- an entry's line was not written whole
 pub returns-in_err-write_entry-clause-part : goal.returns-in_err-write_entry-clause-part
-returns-in_err-write_entry-clause-part g c = let p = err_from_is_err_and c.from_residual.result c.from_residual.ensures.1 in rw p.1 (λ told doubt held suspense is.
+returns-in_err-write_entry-clause-part g c = let p = err_from_is_err_and c.from_residual.result c.from_residual.ensures.1 in rw p.1 (
     let old = g.S.Sink.written c.args.output.now in let mid = g.S.Sink.written c.loop-index.output in let new = g.S.Sink.written c.write_entry.new.output in
     let index = c.loop-index.index in
-    let here = subst (λ (d : Disk). IsSlot g.O.Ledger.holds g.G.Ledger.holds doubt c.args.slot.now held suspense d) (sym (c.loop-index.invariant.disk told)) is in
-    let within : index < length held = omega (arith, c.count-total.ensures, is.indexed.counted) in
-    let payload : List ℕ = get_or held index [] in
-    let got = slice_get-get_or held index [] within in
-    let line = c.in_err-write_entry.ensures.part told doubt held suspense here payload got in
-    let front = part_behind old mid new (lines_from 0 (take index held)) (line_of_entry index payload) (c.loop-index.invariant.written told doubt held suspense is) line in
-    let place : index ≡ 0 + index = omega arith in
-    let parts = lines_parts 0 (index + 1) held in
-    part_of_more old new (lines_from 0 (take index held) ++ line_of_entry index payload) (parts.0 ++ line_of_count (length held)) (log_text held)
-    (ap (λ (l : List ℕ). l ++ line_of_count (length held)) (parts.1 ∙ ap (λ (l : List ℕ). l ++ parts.0) (sym (ap (λ (i : ℕ). lines_from 0 (take index held) ++ line_of_entry i payload) place ∙ lines_more 0 index held payload got)))
-    ∙ append_assoc (lines_from 0 (take index held) ++ line_of_entry index payload) parts.0 (line_of_count (length held)))
-    front)
+    let before = c.loop-index.invariant.written in
+    elim c.in_err-write_entry.ensures.part [
+      | inl same ↦ (
+        lines_from 0 before.0,
+        (
+          (before.0, before.1, lines_front before.0 (lines_from 0 before.0) (whole_front (lines_from 0 before.0))),
+          λ told doubt held suspense is. first_front index held (lines_from 0 before.0)
+              (subst (λ (l : List (List ℕ)). StartsWith (lines_from 0 l) (lines_from 0 before.0)) (before.3 told doubt held suspense is) (whole_front (lines_from 0 before.0))),
+        ),
+        subst (λ it. Appends old (g.S.Sink.written it) (lines_from 0 before.0)) (sym same) before.4,
+      )
+      | inr next ↦
+          let list = before.0 ++ next.0 ∷ [] in
+          let part = subst (AppendsPart old new) (lines_more index before.0 next.0 before.2) (part_behind old mid new (lines_from 0 before.0) (line_of_entry index next.0) before.4 next.3) in (
+            part.0,
+            (
+              (list, All-push IsEntry before.0 next.0 before.1 next.1, lines_front list part.0 part.1),
+              λ told doubt held suspense is.
+                  let here = subst (λ (d : Disk). IsSlot g.O.Ledger.holds g.G.Ledger.holds doubt c.args.slot.now held suspense d) (sym (c.loop-index.invariant.disk told)) is in
+                  let first = ap (λ (l : List (List ℕ)). l ++ next.0 ∷ []) (before.3 told doubt held suspense is) ∙ take_more index held next.0 (next.2 told doubt held suspense here) in
+                  first_front (index + 1) held part.0 (subst (λ (l : List (List ℕ)). StartsWith (lines_from 0 l) part.0) first part.1),
+            ),
+            part.2,
+          )
+    ])
 
 -- all lines are written
 pub returns-clause-whole : goal.returns-clause-whole
-returns-clause-whole g c = λ told doubt held suspense is.
+returns-clause-whole g c =
     let old = g.S.Sink.written c.args.output.now in let mid = g.S.Sink.written c.loop-index.output in let new = g.S.Sink.written c.write_count.new.output in
-    let all = take_all c.loop-index.index held (omega (arith, c.count-total.ensures, is.indexed.counted)) in
-    let before = subst (λ (l : List (List ℕ)). Appends old mid (lines_from 0 l)) all (c.loop-index.invariant.written told doubt held suspense is) in
-    let count = ap line_of_count (c.count-total.ensures ∙ is.indexed.counted) in
-    on_ok_weaker c.write_count.result
-    (λ last. subst (Appends old new) (ap (λ (l : List ℕ). lines_from 0 held ++ l) count) (Appends-trans old mid new (lines_from 0 held) (line_of_count c.count-total.result) before last)) c.write_count.ensures.whole
+    let before = c.loop-index.invariant.written in
+    let long : c.count-total.result ≡ length before.0 = omega (arith, before.2) in
+    on_ok_weaker c.write_count.result (λ last. (
+      log_text before.0,
+      (
+        before.0,
+        before.1,
+        (λ told doubt held suspense is. before.3 told doubt held suspense is ∙ take_all c.loop-index.index held (omega (arith, c.count-total.ensures, is.indexed.counted))),
+        refl,
+      ),
+      subst (Appends old new) (ap (λ (n : ℕ). lines_from 0 before.0 ++ line_of_count n) long) (Appends-trans old mid new (lines_from 0 before.0) (line_of_count c.count-total.result) before.4 last),
+    )) c.write_count.ensures.whole
 
 -- the last line was not written whole
 pub returns-clause-part : goal.returns-clause-part
-returns-clause-part g c = λ told doubt held suspense is.
+returns-clause-part g c =
     let old = g.S.Sink.written c.args.output.now in let mid = g.S.Sink.written c.loop-index.output in let new = g.S.Sink.written c.write_count.new.output in
-    let all = take_all c.loop-index.index held (omega (arith, c.count-total.ensures, is.indexed.counted)) in
-    let before = subst (λ (l : List (List ℕ)). Appends old mid (lines_from 0 l)) all (c.loop-index.invariant.written told doubt held suspense is) in
-    let count = ap line_of_count (c.count-total.ensures ∙ is.indexed.counted) in
-    on_err_weaker c.write_count.result
-    (λ last. subst (AppendsPart old new) (ap (λ (l : List ℕ). lines_from 0 held ++ l) count) (part_behind old mid new (lines_from 0 held) (line_of_count c.count-total.result) before last)) c.write_count.ensures.part
+    let before = c.loop-index.invariant.written in
+    let long : c.count-total.result ≡ length before.0 = omega (arith, before.2) in
+    on_err_weaker c.write_count.result (λ last.
+    let part = subst (AppendsPart old new) (ap (λ (n : ℕ). lines_from 0 before.0 ++ line_of_count n) long)
+    (part_behind old mid new (lines_from 0 before.0) (line_of_count c.count-total.result) before.4 last) in (
+      part.0,
+      (
+        (before.0, before.1, part.1),
+        λ told doubt held suspense is. subst (λ (l : List (List ℕ)). StartsWith (log_text l) part.0)
+            (before.3 told doubt held suspense is ∙ take_all c.loop-index.index held (omega (arith, c.count-total.ensures, is.indexed.counted))) part.1,
+      ),
+      part.2,
+    )) c.write_count.ensures.part

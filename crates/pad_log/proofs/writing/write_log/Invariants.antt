@@ -1,14 +1,16 @@
--- So far the lines of the entries before an index are written.
-use Rattle.std.proofs.Common.{◌≡◌, ◌≤◌, ℕ, List, take}
+-- So far the lines of as many entries as an index says are written; where the volume tells, of those before it.
+use Rattle.std.proofs.Common.{◌≡◌, ℕ, List, length, take}
 use Rattle.std.specs.Io.KnownBytes.{Appends}
-use Rattle.keeper_channel.specs.Slot.{IsSlot}
+use Rattle.keeper_channel.specs.Entries.{AreEntries}
 use Rattle.pad_log.specs.Lines.{lines_from}
+use Rattle.pad_log.specs.Log.{OfEachHeld}
 use Rattle.pad_log.proofs.writing.write_log.Given as goal
 
 abbrev pub invariant-loop-index : goal.invariant-loop-index
 invariant-loop-index g l = let V = g.V.Volume in let S = g.S.Sink in record {
-  written : V.tells → (doubt : (List ℕ → List ℕ) → List (List ℕ)) (held suspense : List (List ℕ)) → IsSlot g.O.Ledger.holds g.G.Ledger.holds doubt l.slot held suspense (V.disk l.fn.volume)
-      → Appends (S.written l.fn.output) (S.written l.output) (lines_from 0 (take l.index held));
+  written : (list : List (List ℕ)) × AreEntries list × (length list ≡ l.index)
+      × (V.tells → OfEachHeld g.O.Ledger.holds g.G.Ledger.holds l.slot (V.disk l.fn.volume) (λ held. list ≡ take l.index held))
+      × Appends (S.written l.fn.output) (S.written l.output) (lines_from 0 list);
   disk : V.tells → V.disk l.volume ≡ V.disk l.fn.volume;
   follows : V.follows l.fn.volume l.volume;
   faults : V.faults l.volume ≡ V.faults l.fn.volume;
