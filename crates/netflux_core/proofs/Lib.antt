@@ -1,0 +1,9 @@
+pub mod Acknowledging
+pub mod Asking
+pub mod Changing
+pub mod Failing
+pub mod Holding
+pub mod Steps
+pub mod Storing
+pub mod Telling
+pub mod Unfailing
