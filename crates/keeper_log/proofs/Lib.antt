@@ -1,0 +1,6 @@
+mod Histories
+mod Reaching
+mod Refusals
+mod Standing
+mod Stores
+mod Tables
