@@ -1,0 +1,6 @@
+pub mod Behind
+pub mod Own
+pub mod Editing
+pub mod Following
+pub mod Adopting
+pub mod New

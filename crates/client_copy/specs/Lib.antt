@@ -1,0 +1,7 @@
+pub mod Pad
+pub mod State
+pub mod Calls
+pub mod Receive
+pub mod Adopt
+pub mod View
+pub mod Inside
