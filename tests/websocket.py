@@ -713,18 +713,28 @@ def kept(echo):
     return after - before
 
 
-@row("72 readers that do not read, 31 MB each, and one beside them", [is_in(0, 2600), is_in(1, 72), (TEXT, b"hello")], LARGE)
+@row("80 readers that do not read, 33 MB each: at most 2 GiB wait in all, some sends fail", [is_in(0, 2300), is_in(1, 80), (TEXT, b"hello")], LARGE)
 def most_unsent(echo):
-    peers = [opened(echo, 4096) for _ in range(72)]
+    peers = [opened(echo) for _ in range(80)]
     for peer in peers:
-        peer.send(frame(TEXT, b"!many 31 1000000"))
-    time.sleep(10)
-    most = echo.megabytes()
+        peer.send(frame(TEXT, b"!many 33 1000000"))
+    before = -1
+    for _ in range(60):
+        most = echo.megabytes()
+        if most == before:
+            break
+        before = most
+        time.sleep(2)
     beside = echoed(echo)
     cut = 0
     for peer in peers:
-        peer.socket.settimeout(2)
-        cut += peer.rest().count((TEXT, 1000000)) < 31
+        got = 0
+        try:
+            while got < 33 and peer.message()[0] == TEXT:
+                got += 1
+        except (EOFError, ConnectionError):  # one that is hung up may be given up, for the sake of others
+            pass
+        cut += got < 33
     return [most, cut, beside]
 
 
