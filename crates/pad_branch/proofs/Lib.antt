@@ -12,7 +12,6 @@ mod Places
 mod Ready
 mod Rewinding
 mod Rising
-mod Tables
 mod Trunk
 mod Turn
 mod Turns

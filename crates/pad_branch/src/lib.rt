@@ -43,6 +43,3 @@ pub use plan::Plan;
 pub use tip::Tip;
 pub use undo::Undo;
 pub use won::Won;
-
-#[cfg(test)]
-mod tests;

@@ -1,8 +1,0 @@
-use Rattle.std.proofs.Common.{sym}
-use Rattle.pad_branch.proofs.Tables.{holds_more, holds_none}
-use Rattle.pad_branch.proofs.tests.table_of.Goals as goal
-
-pub invariant_of-result : goal.invariant_of-result
-invariant_of-result c =
-    holds_more c.new-messages.result c.insert.new.messages c.name-name.result (record { message = c.in_ok-message.message; pathless = false }) c.in-Ok.ensures.updates (record { interval = c.in_ok-message.ensures.interval; named = sym c.in_ok-name.ensures })
-    (holds_none c.new-messages.result c.new-messages.ensures.empty)
