@@ -178,19 +178,27 @@ def changes(count, length, letter, places):
     return contents, Place(name, count + 1, length, None, None)
 
 
+# Runs a program from a small process, since what the system counts as a program's peak memory begins with that of the process that starts it.
+LAUNCH = """
+import os, sys
+_, status, usage = os.wait4(os.posix_spawn(sys.argv[2], sys.argv[2:], os.environ), 0)
+os.write(int(sys.argv[1]), f"{os.waitstatus_to_exitcode(status)} {usage.ru_utime + usage.ru_stime} {usage.ru_maxrss}".encode())
+"""
+
+
 def measured(program, contents):
     """The report, the status, the seconds of processor time and the peak memory in KiB of one run."""
     data = "".join(content + "\n" for content in contents).encode()
     reading, writing = os.pipe()
-    with subprocess.Popen([program, "replay"], stdin=subprocess.PIPE, stdout=writing) as run:
+    words = [sys.executable, "-S", "-c", LAUNCH, str(writing), program, "replay"]
+    with subprocess.Popen(words, stdin=subprocess.PIPE, stdout=subprocess.PIPE, pass_fds=[writing]) as run:
         os.close(writing)
         run.stdin.write(data)
         run.stdin.close()
-        with os.fdopen(reading, "rb") as output:
-            report = output.read().decode()
-        _, status, usage = os.wait4(run.pid, 0)
-        run.returncode = os.waitstatus_to_exitcode(status)
-    return report, run.returncode, usage.ru_utime + usage.ru_stime, usage.ru_maxrss, len(data)
+        report = run.stdout.read().decode()
+    with os.fdopen(reading) as told:
+        status, seconds, memory = told.read().split()
+    return report, int(status), float(seconds), int(memory), len(data)
 
 
 def row(program, what, contents, best):
