@@ -91,7 +91,7 @@ fn add_child(
             Err(_) => Err(AllocError),
         };
     }
-    let mut names = Vec::new(alloc);
+    let mut names = Vec::with_capacity(alloc, 1)?;
     names.push(name)?;
     match children.insert(parent, names) {
         Ok(_) => Ok(()),

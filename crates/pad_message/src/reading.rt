@@ -139,7 +139,7 @@ fn operations_from(alloc: Global, values: &[Value]) -> Result<Operations, ReadRe
         → (operations : List Operation) → All IsOperation operations
         → map view values.now ≢ map operation_data operations) }
 {
-    let mut operations = Vec::new(alloc);
+    let mut operations = Vec::with_capacity(alloc, values.len())?;
     for value in values {
         operations.push(operation_from(alloc, value)?)?;
     }

@@ -81,7 +81,7 @@ impl Patch {
         ensures undoes { IfOk result (λ patch. text_after patch (text_after self.now (S.units text.now)) ≡ S.units text.now) }
         ensures applies { IfOk result (λ patch. CanApply patch (text_after self.now (S.units text.now))) }
     {
-        let mut ops = Vec::new(alloc);
+        let mut ops = Vec::with_capacity(alloc, self.ops.as_slice().len())?;
         let mut inserted = 0;
         let mut removed = 0;
         for op in self.ops.as_slice() {
@@ -106,7 +106,7 @@ impl Patch {
         ensures copy { IfOk result (λ copy. copy ≡ self.now) }
         ensures texts { OnOk result (All (λ operation. IsText operation.insert) self.now.ops) }
     {
-        let mut ops = Vec::new(alloc);
+        let mut ops = Vec::with_capacity(alloc, self.ops.as_slice().len())?;
         for op in self.ops.as_slice() {
             ops.push(op.copy(alloc)?)?;
         }

@@ -19,5 +19,5 @@ returns-in-Err-clause-err c =
 pub returns-in-Ok-insert-clause-ok : goal.returns-in-Ok-insert-clause-ok
 returns-in-Ok-insert-clause-ok c =
     let none : get name_cmp c.args.children.now c.args.parent ≡ None = sym c.get_mut.ensures.value ∙ ap option_copied_mut c.in_default.is in
-    let one = c.in_ok-push.ensures.items ∙ ap (λ (ns : List Name). ns ++ c.args.name ∷ []) c.new-names.ensures.items in
+    let one = c.in_ok-push.ensures.items ∙ ap (λ (ns : List Name). ns ++ c.args.name ∷ []) c.in_ok-names.ensures.items in
     child_put c.args.children.now c.insert.new.self c.args.parent c.args.name c.push-2.new.self (rw c.get_mut.follows.holds-at-none at c.in-Ok-insert.ensures.updates) one none

@@ -13,7 +13,7 @@ use Rattle.pad_patch.proofs.patch.Patch.invert.Goals as goal
 pub loop-op-init : goal.loop-op-init
 loop-op-init g c =
     let text = g.S.UnitStore.units c.args.text.now in
-    rw (c.new-ops.ensures.items, c.as_slice-op-items.ensures) (record {
+    rw (c.in_ok-ops.ensures.items, c.as_slice-op-items.ensures) (record {
       built = refl;
       state = inverting_first c.args.self.now text c.requires.can;
       texts = λ index operation below. absurd (omega arith);
