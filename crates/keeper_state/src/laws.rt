@@ -1,11 +1,11 @@
 ghost use Rattle.std.specs.Prelude.{◌≡◌, ◌≢◌, List, ℕ, Option, IfSome};
 ghost use Rattle.disk_volume.specs.Disk.{Disk, IsImage, reads};
-ghost use Rattle.disk_volume.specs.Moments.{EachNow, Grew};
+ghost use Rattle.disk_volume.specs.Moments.{EachNow, Grew, JustSyncs};
 ghost use Rattle.pad_text.specs.Digits.{IsDigits};
 ghost use Rattle.keeper_channel.specs.declared.slot.Slot.{Slot};
 ghost use Rattle.keeper_table.specs.Files.{OfChannel};
 ghost use Rattle.keeper_state.specs.Slot.{IsSlotFor};
-ghost use Rattle.keeper_state.specs.State.{State, Finds, Has, HoldsWithin, LeavesList, StandsFor};
+ghost use Rattle.keeper_state.specs.State.{State, Found, Finds, Has, HoldsWithin, LeavesList, StandsFor};
 ghost use Rattle.keeper_table.specs.Table.{joined};
 
 use gated_log::Ledger;
@@ -39,4 +39,16 @@ pub fn other_channels_stand<O: Ledger, G: Ledger>()
     other_channels_stay::<O, G>();
     other_channels_are_kept::<O, G>();
     unloaded_channels_are_kept::<O, G>();
+}
+
+/// What a load of a channel finds is what it found before, whatever was done to the files of other channels, and whatever was synced. So of
+/// a channel that was not loaded yet it finds what its files gave at first.
+pub fn loads_find_the_same<O: Ledger, G: Ledger>()
+    ensures others { (channel other : List ℕ) (old new : Disk) (found : Found) → IsDigits 32 channel → IsDigits 32 other → channel ≢ other
+        → Grew (OfChannel O.owns G.owns channel) old new
+        → Finds O.opens_as G.opens_as G.doubt O.damage G.damage other (reads old) found → Finds O.opens_as G.opens_as G.doubt O.damage G.damage other (reads new) found }
+    ensures synced { (channel : List ℕ) (old new : Disk) (found : Found) → JustSyncs old new
+        → Finds O.opens_as G.opens_as G.doubt O.damage G.damage channel (reads old) found → Finds O.opens_as G.opens_as G.doubt O.damage G.damage channel (reads new) found }
+{
+    channels_share_no_file::<O, G>();
 }

@@ -12,4 +12,4 @@
 
 mod laws;
 
-pub use laws::{channels_keep_their_lists, other_channels_stand};
+pub use laws::{channels_keep_their_lists, loads_find_the_same, other_channels_stand};
