@@ -21,6 +21,7 @@ use Rattle.netflux_core.proofs.Changing.{IsSeenAs, seen_live, seen_again, seen_r
 pub read_leaves : (logs : ChannelLogs) (before : Channels) (channel : List ℕ) (held suspense : List (List ℕ)) (after : State) (old new : Disk) → IsSeenAs held suspense after
     → LeavesAsked logs before channel (live held suspense) old new → LeavesAsked logs before channel after old new
 read_leaves logs before channel held suspense after old new seen leaves = record {
+  digits = leaves.digits;
   syncs = leaves.syncs;
   each = leaves.each;
   after = by after seen;
@@ -88,8 +89,9 @@ module _ (logs : ChannelLogs) (keeps_old keeps : Channels → Disk → Type 0) (
       → AskGives identities.keeper number seq ask result outs
       → LeavesAsked logs state.channels (channel_of ask) next old new
       → min (first + failures_after state.failures result) (2 ^ 64 - 1) ≤ faults
+      → (failures_after state.failures result ≡ 0 → faults ≡ first)
       → Ends logs keeps identities hub new first faults state moment (asks number seq ask) outs
-  asked_ends result next outs reads_it is gives leaves failures = record {
+  asked_ends result next outs reads_it is gives leaves failures unfailing = record {
     next = record { rooms = state.rooms; channels = is.now; disk = new; failures = failures_after state.failures result; stored = state.stored };
     becomes = (
       result,
@@ -104,7 +106,7 @@ module _ (logs : ChannelLogs) (keeps_old keeps : Channels → Disk → Type 0) (
       },
       subst (λ (d : Disk). LeavesAsked logs state.channels (channel_of ask) next d new) (sym stands.disk_is) leaves,
     );
-    stands = record { rooms = stands.rooms; channels = is.kept; disk_is = refl; failures = failures };
+    stands = record { rooms = stands.rooms; channels = is.kept; disk_is = refl; failures = failures; unfailing = unfailing };
   }
 
   -- and what is left if memory runs out then

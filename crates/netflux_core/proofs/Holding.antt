@@ -11,6 +11,7 @@ use Rattle.netflux_rooms.specs.Rooms.{Identities, id_of}
 use Rattle.netflux_rooms.proofs.CallerLemmas.{steps_answer}
 use Rattle.serve_loop.specs.declared.event.Event.{Event}
 use Rattle.serve_loop.specs.declared.out.Out.{Out}
+use Rattle.pad_text.specs.Digits.{IsDigits}
 use Rattle.netflux_core.specs.Channels.{Channels, Changes}
 use Rattle.netflux_core.specs.Crashes.{ChannelLogs}
 use Rattle.netflux_core.specs.Histories.{channel_of}
@@ -103,19 +104,19 @@ all_stay before now channel next changes stays other = by (bytes_eq channel othe
 
 held_on : (before now : Channels) (entries : List StoredEntry) → ((other : List ℕ) → Stays (before.at other) (now.at other)) → AreHeld before entries → AreHeld now entries
 held_on before now [] stay held = tt
-held_on before now (entry ∷ entries) stay held = (stay entry.channel entry.index entry.payload held.0, held_on before now entries stay held.1)
+held_on before now (entry ∷ entries) stay held = (held.0, stay entry.channel entry.index entry.payload held.1, held_on before now entries stay held.2)
 
-held_more : (channels : Channels) (entries : List StoredEntry) (entry : StoredEntry) → AreHeld channels entries → HoldsAt (channels.at entry.channel) entry.index entry.payload
+held_more : (channels : Channels) (entries : List StoredEntry) (entry : StoredEntry) → AreHeld channels entries → IsDigits 32 entry.channel → HoldsAt (channels.at entry.channel) entry.index entry.payload
     → AreHeld channels (entries ++ entry ∷ [])
-held_more channels [] entry held holds = (holds, tt)
-held_more channels (first ∷ entries) entry held holds = (held.0, held_more channels entries entry held.1 holds)
+held_more channels [] entry held digits holds = (digits, holds, tt)
+held_more channels (first ∷ entries) entry held digits holds = (held.0, held.1, held_more channels entries entry held.2 digits holds)
 
 module _ (logs : ChannelLogs) (identities : Identities) where
-  stored_held : (state next : ServeState) (channel payload : List ℕ) (result : Result ℕ KeeperRefused) (now : State)
+  stored_held : (state next : ServeState) (channel payload : List ℕ) (result : Result ℕ KeeperRefused) (now : State) → IsDigits 32 channel
       → Stores (logs.finds channel (reads state.disk)) state.channels.loaded (state.channels.at channel) (payload ∷ []) result now
       → InChannel state channel now (failures_after state.failures result) (stored_after state.stored channel payload result) next
       → AreHeld state.channels state.stored → AreHeld next.channels next.stored
-  stored_held state next channel payload result now stored in_channel held = subst (λ (l : List StoredEntry). AreHeld next.channels l) (sym in_channel.stored_are) (by result stored)
+  stored_held state next channel payload result now digits stored in_channel held = subst (λ (l : List StoredEntry). AreHeld next.channels l) (sym in_channel.stored_are) (by result stored)
     where
       kept : Stays (state.channels.at channel) now → AreHeld next.channels state.stored
       kept stays = held_on state.channels next.channels state.stored (all_stay state.channels next.channels channel now in_channel.changes stays) held
@@ -123,7 +124,7 @@ module _ (logs : ChannelLogs) (identities : Identities) where
       by : (result : Result ℕ KeeperRefused) → Stores (logs.finds channel (reads state.disk)) state.channels.loaded (state.channels.at channel) (payload ∷ []) result now
           → AreHeld next.channels (stored_after state.stored channel payload result)
       by (Ok index) stored = held_more next.channels state.stored (record { channel = channel; index = index; payload = payload })
-          (kept (stored_stays (logs.finds channel (reads state.disk)) state.channels.loaded (state.channels.at channel) (payload ∷ []) (Ok index) now stored))
+          (kept (stored_stays (logs.finds channel (reads state.disk)) state.channels.loaded (state.channels.at channel) (payload ∷ []) (Ok index) now stored)) digits
           (subst (λ (s : State). HoldsAt s index payload) (sym in_channel.changes.this)
           (stored_holds (logs.finds channel (reads state.disk)) state.channels.loaded (state.channels.at channel) payload index now stored))
       by (Err why) stored = kept (stored_stays (logs.finds channel (reads state.disk)) state.channels.loaded (state.channels.at channel) (payload ∷ []) (Err why) now stored)
@@ -132,7 +133,7 @@ module _ (logs : ChannelLogs) (identities : Identities) where
       → AreHeld state.channels state.stored → AreHeld next.channels next.stored
   by_answer state next moment outs (made what) becomes held = subst (λ (s : ServeState). AreHeld s.channels s.stored) (sym becomes.1) held
   by_answer state next moment outs (stores number seq channel content) becomes held =
-      stored_held state next channel (payload_of moment (id_of identities state.rooms number) content) becomes.0 becomes.1 becomes.2 becomes.4 held
+      stored_held state next channel (payload_of moment (id_of identities state.rooms number) content) becomes.0 becomes.1 becomes.5.digits becomes.2 becomes.4 held
   by_answer state next moment outs (asks number seq ask) becomes held = subst (λ (l : List StoredEntry). AreHeld next.channels l) (sym becomes.4.stored_are)
       (held_on state.channels next.channels state.stored (all_stay state.channels next.channels (channel_of ask) becomes.1 becomes.4.changes
       (asked_stays (logs.finds (channel_of ask) (reads state.disk)) state.channels.loaded (state.channels.at (channel_of ask)) becomes.0 becomes.1 becomes.2)) held)

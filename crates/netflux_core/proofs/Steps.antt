@@ -20,7 +20,7 @@ use Rattle.serve_loop.specs.declared.out.Out.{Out}
 use Rattle.netflux_core.specs.Channels.{Channels}
 use Rattle.netflux_core.specs.Crashes.{ChannelLogs, HoldsAll}
 use Rattle.netflux_core.specs.Inside.Ends.{Ends}
-use Rattle.netflux_core.specs.Machine.{ServeState, Becomes, Step, StandsFor, BreaksBy, Breaks, Costs, IsRefused}
+use Rattle.netflux_core.specs.Machine.{ServeState, Becomes, Step, StandsFor, BreaksBy, Breaks, Costs, IsRefused, rooms_after}
 use Rattle.netflux_core.specs.Words.{Refuses}
 use Rattle.netflux_core.proofs.Telling.{entries_hang}
 
@@ -46,7 +46,7 @@ module _ (logs : ChannelLogs) (identities : Identities) (first : ℕ) (state : S
   made_ends keeps old hub disk faults (made rooms) (heard.Done done) outs stands is given = record {
     next = record state { rooms = rooms.1 };
     becomes = (sym is ∙ given.0, refl);
-    stands = record { rooms = given.1; channels = stands.channels; disk_is = stands.disk_is; failures = stands.failures };
+    stands = record { rooms = given.1; channels = stands.channels; disk_is = stands.disk_is; failures = stands.failures; unfailing = stands.unfailing };
   }
   made_ends keeps old hub disk faults (stores n seq channel content) (heard.Done done) outs stands is given = absurd given
   made_ends keeps old hub disk faults (asks n seq ask) (heard.Done done) outs stands is given = absurd given
@@ -93,6 +93,23 @@ pub asked_hangs : (is_loaded : List ℕ → Type 0) (rises : Type 0) (identities
 asked_hangs is_loaded rises identities rooms before now number seq ask outs (inl told) =
     subst (λ (o : List Out). HangsBehind o) (sym told.2) (entries_hang (number ∷ []) identities.keeper number ask told.0 (tell number told.1 ∷ []) (λ last. tt))
 asked_hangs is_loaded rises identities rooms before now number seq ask outs (inr refusing) = subst (λ (o : List Out). HangsBehind o) (sym refusing.1) tt
+
+-- the rooms after what was heard
+pub gives_rooms : (identities : Identities) (rooms : Rooms) (what : Heard) (hub : RoomHub) (answer : Answer) → Gives identities rooms what hub answer → IsRooms identities hub (rooms_after rooms answer)
+gives_rooms identities rooms (heard.Done done) hub (made what) given = given.1
+gives_rooms identities rooms (heard.Done done) hub (stores n seq channel content) given = absurd given
+gives_rooms identities rooms (heard.Done done) hub (asks n seq ask) given = absurd given
+gives_rooms identities rooms (heard.Store n seq channel content) hub (made what) given = absurd given
+gives_rooms identities rooms (heard.Store n seq channel content) hub (stores m s name text) given = given.4
+gives_rooms identities rooms (heard.Store n seq channel content) hub (asks m s ask) given = absurd given
+gives_rooms identities rooms (heard.Ask n seq ask) hub (made what) given = absurd given
+gives_rooms identities rooms (heard.Ask n seq ask) hub (stores m s name text) given = absurd given
+gives_rooms identities rooms (heard.Ask n seq ask) hub (asks m s other) given = given.3
+
+pub rooms_of : (identities : Identities) (rooms : Rooms) (event : Event) (what : Heard) (hub : RoomHub) → Steps identities rooms event (Gives identities rooms what hub)
+    → Steps identities rooms event (λ answer. IsRooms identities hub (rooms_after rooms answer))
+rooms_of identities rooms event what hub steps = steps_then identities rooms event (Gives identities rooms what hub) (λ answer. IsRooms identities hub (rooms_after rooms answer))
+    (λ answer given. gives_rooms identities rooms what hub answer given) steps
 
 -- an event for which the keeper is asked is no closing
 pub store_closes : (identities : Identities) (rooms : Rooms) (n seq : ℕ) (channel content : List ℕ) (hub : RoomHub) (event : Event) (before now : List ℕ) (outs : List Out)

@@ -110,7 +110,7 @@ module _ (logs : ChannelLogs) (identities : Identities) (first : Disk) (other : 
       → Stores (logs.finds channel (reads state.disk)) state.channels.loaded (state.channels.at channel) (payload ∷ []) result now
       → StoreGives identities state.rooms number seq channel content result outs
       → InChannel state channel now (failures_after state.failures result) (stored_after state.stored channel payload result) next
-      → LeavesStored logs state.channels channel now state.disk next.disk
+      → LeavesStored logs state.channels channel (payload ∷ []) result now state.disk next.disk
       → next.failures ≡ 0 → HoldsAllStored logs first other state → HoldsAllStored logs first other next
   stored_all state next number seq channel content payload outs result now stored gives in_channel leaves none holds = by (bytes_eq channel other) refl
     where
@@ -136,7 +136,7 @@ module _ (logs : ChannelLogs) (identities : Identities) (first : Disk) (other : 
       by false e = subst (λ (l : List (List ℕ)). Holds logs first other (next.channels.at other) l next.disk)
           (sym (ap (λ (l : List StoredEntry). stored_in other l) in_channel.stored_are ∙ there result (turned channel other false e)))
           (remains logs first other (state.channels.at other) (next.channels.at other) (stored_in other state.stored) state.disk next.disk (in_channel.changes.others other e)
-          (λ unloaded spares. by_another channel e leaves.acts spares) holds)
+          (λ unloaded spares. by_another channel leaves.digits e leaves.acts spares) holds)
 
   -- a question about some channel
   asked_all : (state next : ServeState) (number seq : ℕ) (ask : Ask) (outs : List Out) (result : Result (List (List ℕ)) KeeperRefused) (now : State)
@@ -156,7 +156,7 @@ module _ (logs : ChannelLogs) (identities : Identities) (first : Disk) (other : 
           (subst (λ (c : List ℕ). AnswersByReading (logs.finds c (reads state.disk)) state.channels.loaded (state.channels.at c) (λ held told. told ≡ held) result now) same read)
           (sym in_channel.failures_are ∙ none) gives (subst (λ (c : List ℕ). OnlySyncs (logs.owns c) state.disk next.disk) same leaves.syncs) holds)
       by false e = remains logs first other (state.channels.at other) (next.channels.at other) (stored_in other state.stored) state.disk next.disk (in_channel.changes.others other e)
-          (λ unloaded spares. by_another (channel_of ask) e (syncs_grew next.disk leaves.syncs) spares) holds
+          (λ unloaded spares. by_another (channel_of ask) leaves.digits e (syncs_grew next.disk leaves.syncs) spares) holds
 
   by_answer : (state next : ServeState) (moment : ℕ) (outs : List Out) (answer : Answer) → Becomes logs identities state moment outs next answer
       → next.failures ≡ 0 → HoldsAllStored logs first other state → HoldsAllStored logs first other next

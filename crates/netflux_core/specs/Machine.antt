@@ -71,7 +71,7 @@ Becomes logs identities state moment outs next (stores number seq channel conten
     × Stores (logs.finds channel (reads state.disk)) state.channels.loaded (state.channels.at channel) (payload_of moment (id_of identities state.rooms number) content ∷ []) result now
     × StoreGives identities state.rooms number seq channel content result outs
     × InChannel state channel now (failures_after state.failures result) (stored_after state.stored channel (payload_of moment (id_of identities state.rooms number) content) result) next
-    × LeavesStored logs state.channels channel now state.disk next.disk
+    × LeavesStored logs state.channels channel (payload_of moment (id_of identities state.rooms number) content ∷ []) result now state.disk next.disk
 Becomes logs identities state moment outs next (asks number seq ask) = (result : Result (List (List ℕ)) KeeperRefused) × (now : State)
     × AnswersByReading (logs.finds (channel_of ask) (reads state.disk)) state.channels.loaded (state.channels.at (channel_of ask)) (λ held told. told ≡ held) result now
     × AskGives identities.keeper number seq ask result outs
@@ -87,7 +87,7 @@ abbrev pub BreaksBy : (logs : ChannelLogs) → Identities → ServeState → (mo
 BreaksBy logs identities state moment disk (made what) = ⊥
 BreaksBy logs identities state moment disk (stores number seq channel content) = (result : Result ℕ KeeperRefused) × (now : State)
     × Stores (logs.finds channel (reads state.disk)) state.channels.loaded (state.channels.at channel) (payload_of moment (id_of identities state.rooms number) content ∷ []) result now
-    × LeavesStored logs state.channels channel now state.disk disk
+    × LeavesStored logs state.channels channel (payload_of moment (id_of identities state.rooms number) content ∷ []) result now state.disk disk
 BreaksBy logs identities state moment disk (asks number seq ask) = (result : Result (List (List ℕ)) KeeperRefused) × (now : State)
     × AnswersByReading (logs.finds (channel_of ask) (reads state.disk)) state.channels.loaded (state.channels.at (channel_of ask)) (λ held told. told ≡ held) result now
     × LeavesAsked logs state.channels (channel_of ask) now state.disk disk
@@ -97,12 +97,20 @@ abbrev pub Breaks : (logs : ChannelLogs) → Identities → ServeState → (mome
 Breaks logs identities state moment event disk =
     ((disk ≡ state.disk) × HoldsAll logs state.channels disk) ⊎ Steps identities state.rooms event (BreaksBy logs identities state moment disk)
 
--- Hub, keeper and volume are in this state. The volume had `first` faults when the machine began.
+-- Hub, keeper and volume are in this state. The volume had `first` faults when the machine began. Each step with `ESTORE` has a fault of its own,
+-- and if no step gave it there is no fault more.
 pub record StandsFor (keeps : Channels → Disk → Type 0) (identities : Identities) (hub : RoomHub) (disk : Disk) (first faults : ℕ) (state : ServeState) : Type 0 where
   pub rooms : IsRooms identities hub state.rooms
   pub channels : keeps state.channels disk
   pub disk_is : state.disk ≡ disk
   pub failures : min (first + state.failures) (2 ^ 64 - 1) ≤ faults
+  pub unfailing : state.failures ≡ 0 → faults ≡ first
+
+-- the rooms after an event: a message to a channel, and a question, leaves them
+abbrev pub rooms_after : Rooms → Answer → Rooms
+rooms_after rooms (made what) = what.1
+rooms_after rooms (stores number seq channel content) = rooms
+rooms_after rooms (asks number seq ask) = rooms
 
 -- an error, and `ESTORE` only if the volume failed
 abbrev pub IsRefused : (rises : Type 0) → (number seq : ℕ) → (about : List ℕ) → List Out → Type 0

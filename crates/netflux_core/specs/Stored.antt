@@ -3,6 +3,7 @@ use Rattle.std.specs.Prelude.{◌≡◌, ◌⊎◌, ℕ, false, List, [], ◌∷
 use Rattle.disk_volume.specs.Disk.{Disk, reads}
 use Rattle.disk_volume.specs.Moments.{Grew, OnlySyncs}
 use Rattle.keeper_state.specs.State.{State, unseen, live, again, lists}
+use Rattle.pad_text.specs.Digits.{IsDigits}
 use Rattle.netflux_core.specs.Channels.{Channels}
 use Rattle.netflux_core.specs.Crashes.{ChannelLogs}
 use Rattle.netflux_core.specs.Machine.{StoredEntry, ServeState}
@@ -13,10 +14,10 @@ HoldsAt unseen index payload = ⊥
 HoldsAt (live held suspense) index payload = slice_get held index ≡ Some payload
 HoldsAt (again held suspense) index payload = slice_get held index ≡ Some payload
 
--- each of these entries is held in its channel, at its index
+-- each of these entries is held in its channel, which has 32 digits, at its index
 abbrev pub AreHeld : Channels → List StoredEntry → Type 0
 AreHeld channels [] = Unit {0}
-AreHeld channels (entry ∷ entries) = HoldsAt (channels.at entry.channel) entry.index entry.payload × AreHeld channels entries
+AreHeld channels (entry ∷ entries) = IsDigits 32 entry.channel × HoldsAt (channels.at entry.channel) entry.index entry.payload × AreHeld channels entries
 
 -- the payloads of those that were stored in a channel, in order
 abbrev pub stored_in : (channel : List ℕ) → List StoredEntry → List (List ℕ)
@@ -26,7 +27,7 @@ stored_in channel (entry ∷ entries) = if bytes_eq channel entry.channel then e
 -- The later disk came from the earlier one by acts on the files of other channels, and by syncs of those of this one.
 pub data Spares (logs : ChannelLogs) (channel : List ℕ) (old : Disk) : Disk → Type 0 where
   spared : Spares logs channel old old
-  by_another : {mid new : Disk} (other : List ℕ) → bytes_eq other channel ≡ false → Grew (logs.owns other) mid new → Spares logs channel old mid → Spares logs channel old new
+  by_another : {mid new : Disk} (other : List ℕ) → IsDigits 32 other → bytes_eq other channel ≡ false → Grew (logs.owns other) mid new → Spares logs channel old mid → Spares logs channel old new
   by_syncs : {mid new : Disk} → OnlySyncs (logs.owns channel) mid new → Spares logs channel old mid → Spares logs channel old new
 
 -- A channel that was not loaded at first still is not, and nothing was stored in it; or its list is the one that its files gave when it

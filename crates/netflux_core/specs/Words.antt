@@ -1,5 +1,5 @@
 -- What a client is told when its request is refused.
-use Rattle.std.specs.Prelude.{◌≡◌, ℕ, ◌+◌, List, Result, Ok, Err}
+use Rattle.std.specs.Prelude.{◌≡◌, ◌⊎◌, ℕ, ◌+◌, List, [], ◌∷◌, Result, Ok, Err}
 use Rattle.keeper_channel.specs.declared.refused.KeeperRefused.{KeeperRefused}
 use Rattle.keeper_channel.specs.declared.refused.KeeperRefused.TheVariants as refused
 use Rattle.netflux_codec.specs.declared.word.Word.TheVariants as word
@@ -20,3 +20,12 @@ failures_after failures (Err refused.Full) = failures
 failures_after failures (Err refused.Store) = failures + 1
 failures_after failures (Err (refused.Damaged damage)) = failures
 failures_after failures (Err (refused.NoMemory memory)) = failures
+
+-- `ESTORE` and nothing else
+abbrev pub IsStoreError : List Out → Type 0
+IsStoreError outs = (number : ℕ) × (seq : ℕ) × (about : List ℕ) × (outs ≡ error number seq word.Estore about)
+
+-- the outputs of some step are that
+abbrev pub HasStoreError : List (List Out) → Type 0
+HasStoreError [] = ⊥
+HasStoreError (outs ∷ outputs) = IsStoreError outs ⊎ HasStoreError outputs

@@ -1,4 +1,4 @@
-ghost use Rattle.std.specs.Prelude.{◌≡◌, ◌≤◌, ◌<◌, ◌+◌, ◌*◌, ◌++◌, ◌∷◌, [], ℕ, List, drop, length, Ok, Err, IfOk, OnOk, MatchResult, IsErrOf};
+ghost use Rattle.std.specs.Prelude.{◌≡◌, ◌⊎◌, ◌≤◌, ◌<◌, ◌+◌, ◌*◌, ◌++◌, ◌∷◌, [], ℕ, List, drop, length, Ok, Err, IfOk, OnOk, MatchResult, IsErrOf};
 ghost use Rattle.pad_edge.specs.Count.{Rose};
 ghost use Rattle.disk_volume.specs.Disk.{reads};
 ghost use Rattle.keeper_channel.specs.declared.refused.KeeperRefused.{KeeperRefused};
@@ -81,6 +81,7 @@ fn push_entry<V: Volume, K: Keep>(
     ensures clock { V.clock volume.new ≤ V.clock volume.old + 2 }
     ensures follows { V.follows volume.old volume.new }
     ensures store { IsErrOf result KeeperRefused.Store → Rose (V.faults volume.old) (V.faults volume.new) }
+    ensures kept { IsErrOf result KeeperRefused.Store ⊎ (V.faults volume.new ≡ V.faults volume.old) }
     ensures later { V.faults volume.old ≤ V.faults volume.new }
 {
     match keeper.entry_for(alloc, volume, ask, index) {
@@ -120,6 +121,7 @@ fn push_entries<V: Volume, K: Keep>(
     ensures disk { V.tells → V.disk volume.new ≡ V.disk volume.old }
     ensures follows { V.follows volume.old volume.new }
     ensures store { IsErrOf result KeeperRefused.Store → Rose (V.faults volume.old) (V.faults volume.new) }
+    ensures kept { IsErrOf result KeeperRefused.Store ⊎ (V.faults volume.new ≡ V.faults volume.old) }
     ensures later { V.faults volume.old ≤ V.faults volume.new }
 {
     for index in start..total {
@@ -152,6 +154,7 @@ fn push_span<V: Volume, K: Keep>(
     ensures disk { V.tells → V.disk volume.new ≡ V.disk volume.old }
     ensures follows { V.follows volume.old volume.new }
     ensures store { IsErrOf result KeeperRefused.Store → Rose (V.faults volume.old) (V.faults volume.new) }
+    ensures kept { IsErrOf result KeeperRefused.Store ⊎ (V.faults volume.new ≡ V.faults volume.old) }
     ensures later { V.faults volume.old ≤ V.faults volume.new }
 {
     match span {
@@ -214,6 +217,7 @@ fn tell_history<V: Volume, K: Keep>(
     ensures disk { V.tells → V.disk volume.new ≡ V.disk volume.old }
     ensures follows { V.follows volume.old volume.new }
     ensures store { IsErrOf result KeeperRefused.Store → Rose (V.faults volume.old) (V.faults volume.new) }
+    ensures kept { IsErrOf result KeeperRefused.Store ⊎ (V.faults volume.new ≡ V.faults volume.old) }
     ensures later { V.faults volume.old ≤ V.faults volume.new }
 {
     let mut outs = match acknowledged(alloc, number, seq) {
@@ -252,6 +256,7 @@ pub(crate) fn read_history<V: Volume, K: Keep>(
         × (K.is_loaded keeper.old (channel_of ask.now) → V.clock volume.new ≤ V.clock volume.old + 2 * length entries)) }
     ensures follows { V.follows volume.old volume.new }
     ensures store { IsErrOf result KeeperRefused.Store → Rose (V.faults volume.old) (V.faults volume.new) }
+    ensures kept { IsErrOf result KeeperRefused.Store ⊎ (V.faults volume.new ≡ V.faults volume.old) }
     ensures later { V.faults volume.old ≤ V.faults volume.new }
 {
     match keeper.find_span(alloc, volume, ask) {

@@ -14,9 +14,9 @@ ghost use Rattle.serve_loop.specs.declared.out.Out.{Out};
 ghost use Rattle.netflux_core.specs.Channels.{Channels};
 ghost use Rattle.netflux_core.specs.Histories.{channel_of, tell_entries};
 ghost use Rattle.netflux_core.specs.Inside.Ends.{Ends};
-ghost use Rattle.netflux_core.specs.Machine.{ServeState, Step, StandsFor, BreaksBy, Breaks, Costs, IsRefused};
+ghost use Rattle.netflux_core.specs.Machine.{ServeState, Step, StandsFor, BreaksBy, Breaks, Costs, IsRefused, rooms_after};
 ghost use Rattle.netflux_core.specs.Runs.{Runs, IsOwned};
-ghost use Rattle.netflux_core.specs.Words.{Refuses};
+ghost use Rattle.netflux_core.specs.Words.{Refuses, IsStoreError, HasStoreError};
 
 use crate::history::{channel_in, read_history};
 use crate::keep::Keep;
@@ -93,6 +93,7 @@ impl Hub {
             ⊎ IsRefused (Rose (V.faults volume.old) (V.faults volume.new)) number seq channel.now outs.items) }
         ensures files { V.tells → Grew (IsOwned K.logs.owns) (V.disk volume.old) (V.disk volume.new) }
         ensures follows { V.follows volume.old volume.new }
+        ensures kept { IfOk result (λ outs. IsStoreError outs.items ⊎ (V.faults volume.new ≡ V.faults volume.old)) }
         ensures later { V.faults volume.old ≤ V.faults volume.new }
     {
         let _digits = channel.digits();
@@ -131,6 +132,7 @@ impl Hub {
             ⊎ IsRefused (Rose (V.faults volume.old) (V.faults volume.new)) number seq identities.keeper outs.items) }
         ensures files { V.tells → Grew (IsOwned K.logs.owns) (V.disk volume.old) (V.disk volume.new) }
         ensures follows { V.follows volume.old volume.new }
+        ensures kept { IfOk result (λ outs. IsStoreError outs.items ⊎ (V.faults volume.new ≡ V.faults volume.old)) }
         ensures later { V.faults volume.old ≤ V.faults volume.new }
     {
         let channel = channel_in(ask);
@@ -169,9 +171,12 @@ impl Hub {
         // Whether it tells or not.
         ensures costs { (identities : Identities) (rooms : Rooms) → IsRooms identities self.old.rooms rooms
             → IfOk result (λ outs. Steps identities rooms event (Costs (K.is_loaded keeper.old) (Rose (V.faults volume.old) (V.faults volume.new)) identities rooms (V.clock volume.old) (V.clock volume.new) outs)) }
+        ensures rooms { (identities : Identities) (rooms : Rooms) → IsRooms identities self.old.rooms rooms
+            → IfOk result (λ outs. Steps identities rooms event (λ answer. IsRooms identities self.new.rooms (rooms_after rooms answer))) }
         ensures served { IfOk result (λ outs. CanServe event self.old.rooms self.new.rooms outs) }
         ensures sound { OnOk result (K.is_sound keeper.new) }
         ensures follows { V.follows volume.old volume.new }
+        ensures kept { IfOk result (λ outs. IsStoreError outs ⊎ (V.faults volume.new ≡ V.faults volume.old)) }
         ensures later { V.faults volume.old ≤ V.faults volume.new }
     {
         K::crashes_leave_what_is_held();
@@ -210,6 +215,7 @@ impl Hub {
         ensures whole { OnOk result (IsWhole self.new.rooms) }
         ensures sound { OnOk result (K.is_sound keeper.new) }
         ensures follows { V.follows volume.old volume.new }
+        ensures kept { IfOk result (λ outputs. HasStoreError outputs.items ⊎ (V.faults volume.new ≡ V.faults volume.old)) }
         ensures later { V.faults volume.old ≤ V.faults volume.new }
     {
         let mut outputs = Vec::new(alloc);

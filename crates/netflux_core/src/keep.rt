@@ -1,4 +1,4 @@
-ghost use Rattle.std.specs.Prelude.{◌≡◌, ◌≤◌, ◌<◌, ◌+◌, ◌∷◌, [], ℕ, List, length, IfOk, OnOk, IsErrOf};
+ghost use Rattle.std.specs.Prelude.{◌≡◌, ◌⊎◌, ◌≤◌, ◌<◌, ◌+◌, ◌∷◌, [], ℕ, List, length, IfOk, OnOk, IsErrOf};
 ghost use Rattle.pad_edge.specs.Count.{Rose};
 ghost use Rattle.disk_volume.specs.Disk.{Disk, reads};
 ghost use Rattle.keeper_channel.specs.declared.refused.KeeperRefused.{KeeperRefused};
@@ -8,6 +8,7 @@ ghost use Rattle.keeper_state.specs.State.{State, live, Answers, Stores};
 ghost use Rattle.keeper_table.specs.declared.span.Span.{Span};
 ghost use Rattle.netflux_codec.specs.declared.reply.TheConstants.{MOST_ENTRIES};
 ghost use Rattle.netflux_rooms.specs.declared.limits.TheConstants.{LONGEST_MESSAGE};
+ghost use Rattle.pad_text.specs.Digits.{IsDigits};
 ghost use Rattle.netflux_core.specs.Channels.{Channels, IsNow, HasLive, Gets};
 ghost use Rattle.netflux_core.specs.Crashes.{ChannelLogs, HoldsAll, LeavesAsked, LeavesStored};
 ghost use Rattle.netflux_core.specs.Histories.{span_for, channel_of};
@@ -55,9 +56,11 @@ pub trait Keep {
         ensures stored { V.tells → (channels : Channels) → keeps self.old channels (V.disk volume.old)
             → (next : State) × Stores (logs.finds channel.now (reads (V.disk volume.old))) channels.loaded (channels.at channel.now) (payload_of moment sender.now content.now ∷ []) result next
             × IsNow (keeps self.new) channels channel.now next (V.disk volume.new)
-            × LeavesStored logs channels channel.now next (V.disk volume.old) (V.disk volume.new) }
+            × LeavesStored logs channels channel.now (payload_of moment sender.now content.now ∷ []) result next (V.disk volume.old) (V.disk volume.new) }
+        ensures known { OnOk result (is_loaded self.new channel.now) }
         ensures follows { V.follows volume.old volume.new }
         ensures store { IsErrOf result KeeperRefused.Store → Rose (V.faults volume.old) (V.faults volume.new) }
+        ensures kept { IsErrOf result KeeperRefused.Store ⊎ (V.faults volume.new ≡ V.faults volume.old) }
         ensures later { V.faults volume.old ≤ V.faults volume.new };
 
     /// Where the answer to a question starts, and how many entries the channel has. On a loaded channel it makes no call of the volume.
@@ -78,8 +81,10 @@ pub trait Keep {
         ensures entries { IfOk result (λ span. EachBefore span (λ index. has_entry self.new (channel_of ask.now) index × (index < MOST_ENTRIES))) }
         ensures few { (start total : ℕ) → IfOk result (λ span. span ≡ Span.Found start total → total ≤ MOST_ENTRIES) }
         ensures loaded { is_loaded self.old (channel_of ask.now) → volume.new ≡ volume.old }
+        ensures known { OnOk result (is_loaded self.new (channel_of ask.now)) }
         ensures follows { V.follows volume.old volume.new }
         ensures store { IsErrOf result KeeperRefused.Store → Rose (V.faults volume.old) (V.faults volume.new) }
+        ensures kept { IsErrOf result KeeperRefused.Store ⊎ (V.faults volume.new ≡ V.faults volume.old) }
         ensures later { V.faults volume.old ≤ V.faults volume.new };
 
     /// The entry of an index in the channel of a question, which is loaded, in two calls of the volume at most. After `Store` the channel is loaded again by the next
@@ -102,9 +107,20 @@ pub trait Keep {
         ensures clock { V.clock volume.new ≤ V.clock volume.old + 2 }
         ensures follows { V.follows volume.old volume.new }
         ensures store { IsErrOf result KeeperRefused.Store → Rose (V.faults volume.old) (V.faults volume.new) }
+        ensures kept { IsErrOf result KeeperRefused.Store ⊎ (V.faults volume.new ≡ V.faults volume.old) }
         ensures later { V.faults volume.old ≤ V.faults volume.new };
 
     /// Of each channel that it keeps a crash leaves the list held, with what is in suspense or without. It makes no call; it only says so.
     fn crashes_leave_what_is_held()
         ensures { (keeper : Self) (channels : Channels) (disk : Disk) → is_sound keeper → keeps keeper channels disk → HoldsAll logs channels disk };
+
+    /// A channel that is loaded on a disk is loaded over every volume. It makes no call; it only says so.
+    fn live_is_loaded()
+        ensures { (keeper : Self) (channels : Channels) (disk : Disk) (channel : List ℕ) (held suspense : List (List ℕ)) → IsDigits 32 channel
+            → is_sound keeper → keeps keeper channels disk → channels.at channel ≡ live held suspense → is_loaded keeper channel };
+
+    /// The files of a loaded channel read as the list held. It makes no call; it only says so.
+    fn reads_what_is_held()
+        ensures { (keeper : Self) (channels : Channels) (disk : Disk) (channel : List ℕ) (held suspense : List (List ℕ)) → IsDigits 32 channel
+            → is_sound keeper → keeps keeper channels disk → channels.at channel ≡ live held suspense → logs.lists channel (reads disk) held };
 }

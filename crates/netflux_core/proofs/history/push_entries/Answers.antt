@@ -1,8 +1,9 @@
-use Rattle.std.proofs.Common.{◌∙◌, ◌≤◌, ◌<◌, [], ◌∷◌, ◌++◌, length, refl, sym, arith}
+use Rattle.std.proofs.Common.{◌∙◌, inr, ◌≤◌, ◌<◌, [], ◌∷◌, ◌++◌, length, refl, sym, arith}
 use Rattle.std.proofs.lemmas.Result.{err_from_is_err_and}
 use Rattle.std.proofs.lemmas.List.{append-nil, length-append}
 use Rattle.keeper_state.specs.State.{live}
 use Rattle.netflux_core.specs.Histories.{channel_of}
+use Rattle.netflux_core.proofs.Failing.{ok_kept, kept_on}
 use Rattle.netflux_core.proofs.Changing.{none_changes, now_then, seen_live, seen_refused}
 use Rattle.netflux_core.proofs.Telling.{told_all, one_more}
 use Rattle.netflux_core.proofs.history.push_entries.Goals as goal
@@ -15,6 +16,7 @@ loop-index-init g c = record {
   cost = ([], sym (append-nil c.args.outs.now.items), omega arith);
   disk = λ told. refl;
   follows = g.met.V.Volume.follows_itself c.args.volume.now;
+  kept = refl;
   later = omega arith;
 }
 
@@ -49,6 +51,7 @@ loop-index-preserved g c = record {
       );
   disk = λ told. c.push_entry.ensures.disk told ∙ c.loop-index.invariant.disk told;
   follows = g.met.V.Volume.follows_on c.args.volume.now c.loop-index.volume c.push_entry.new.volume c.loop-index.invariant.follows c.push_entry.ensures.follows;
+  kept = ok_kept _ _ c.in_ok-push_entry.ensures.kept ∙ c.loop-index.invariant.kept;
   later = omega (arith, c.loop-index.invariant.later, c.push_entry.ensures.later);
 }
 
@@ -65,3 +68,10 @@ returns-in_err-push_entry-clause-pushed g c = λ told channels held suspense kep
     let lost = c.in_err-push_entry.ensures.pushed told before.1.now held suspense before.1.kept before.1.changes.this in
     let p = err_from_is_err_and c.from_residual.result c.from_residual.ensures.1 in rw (p.1, p.2)
     (lost.0, lost.1, now_then (K.keeps c.push_entry.new.keeper) channels before.1.now (channel_of c.args.ask.now) held suspense lost.0 (V.disk c.push_entry.new.volume) (seen_refused held suspense _ lost.0 lost.1) before.1.changes lost.2)
+
+pub returns-clause-kept : goal.returns-clause-kept
+returns-clause-kept g c = inr c.loop-index.invariant.kept
+
+pub returns-in_err-push_entry-clause-kept : goal.returns-in_err-push_entry-clause-kept
+returns-in_err-push_entry-clause-kept g c =
+    let p = err_from_is_err_and c.from_residual.result c.from_residual.ensures.1 in rw (p.1, p.2) (kept_on c.in_err-push_entry.ensures.kept c.loop-index.invariant.kept)

@@ -17,5 +17,6 @@ invariant-loop-index g l = let V = g.V.Volume in let K = g.K.Keep in record {
   cost : (entries : List Entry) × (l.outs.items ≡ l.fn.outs.items ++ tell_entries l.identity l.number l.ask entries) × (V.clock l.volume ≤ V.clock l.fn.volume + 2 * length entries);
   disk : V.tells → V.disk l.volume ≡ V.disk l.fn.volume;
   follows : V.follows l.fn.volume l.volume;
+  kept : V.faults l.volume ≡ V.faults l.fn.volume;
   later : V.faults l.fn.volume ≤ V.faults l.volume;
 }

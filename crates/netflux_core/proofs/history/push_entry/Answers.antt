@@ -1,10 +1,11 @@
-use Rattle.std.proofs.Common.{◌∙◌, ◌++◌, ◌∷◌, [], refl, sym, ap, subst}
+use Rattle.std.proofs.Common.{◌∙◌, inr, ◌++◌, ◌∷◌, [], refl, sym, ap, subst}
 use Rattle.keeper_state.specs.State.{State, live}
 use Rattle.netflux_core.specs.Channels.{IsNow}
 use Rattle.netflux_core.specs.Histories.{channel_of}
 use Rattle.netflux_codec.specs.Reply.{HasSmallCounts}
 use Rattle.netflux_codec.specs.declared.reply.Reply.{Reply}
 use Rattle.netflux_rooms.specs.Rooms.{tell}
+use Rattle.netflux_core.proofs.Failing.{ok_kept}
 use Rattle.netflux_core.proofs.Telling.{small_entry, pushed_more, at_index}
 use Rattle.netflux_core.proofs.history.push_entry.Goals as goal
 
@@ -31,3 +32,9 @@ returns-in-Ok-clause-pushed g c = λ told channels held suspense kept is.
     let K = g.K.Keep in let V = g.V.Volume in
     let got = c.in-Ok.ensures.got told channels held suspense kept is in
     (live held suspense, refl, subst (λ (s : State). IsNow (K.keeps c.entry_for.new.self) channels (channel_of c.args.ask.now) s (V.disk c.entry_for.new.volume)) got.1.3 got.2)
+
+pub returns-in-Ok-push_one-clause-kept : goal.returns-in-Ok-push_one-clause-kept
+returns-in-Ok-push_one-clause-kept g c = inr (ok_kept _ c.in-Ok.entry c.in-Ok.ensures.kept)
+
+pub returns-in-Ok-clause-kept : goal.returns-in-Ok-clause-kept
+returns-in-Ok-clause-kept g c = inr (ok_kept _ c.in-Ok.entry c.in-Ok.ensures.kept)

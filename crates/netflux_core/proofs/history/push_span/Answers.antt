@@ -1,4 +1,4 @@
-use Rattle.std.proofs.Common.{◌∙◌, ◌<◌, ℕ, ◌++◌, sym, ap, subst, [], arith}
+use Rattle.std.proofs.Common.{◌∙◌, inr, ◌<◌, ℕ, ◌++◌, refl, sym, ap, subst, [], arith}
 use Rattle.std.proofs.lemmas.List.{append-nil}
 use Rattle.netflux_codec.specs.declared.reply.TheConstants.{MOST_ENTRIES}
 use Rattle.keeper_table.specs.Span.{EachBefore}
@@ -23,3 +23,6 @@ push_entries-requires-clause-entries g c = subst (λ (s : Span). EachBefore s (�
 pub returns-in-Found-clause-pushed : goal.returns-in-Found-clause-pushed
 returns-in-Found-clause-pushed g c = λ told channels held suspense kept is spanned.
     rw c.in-Found.is (c.push_entries.ensures.pushed told channels held suspense kept is (total_of c.args.ask.now held c.in-Found.start c.in-Found.total (sym c.in-Found.is ∙ spanned)))
+
+pub returns-in-Unknown-clause-kept : goal.returns-in-Unknown-clause-kept
+returns-in-Unknown-clause-kept g c = inr refl

@@ -1,5 +1,6 @@
 use Rattle.std.proofs.Common.{inl}
 use Rattle.netflux_core.proofs.Asking.{read_ends}
+use Rattle.netflux_core.proofs.Failing.{ok_kept, err_kept, kept_on}
 use Rattle.netflux_core.proofs.history.read_history.Goals as goal
 
 pub returns-in-Ok-clause-told : goal.returns-in-Ok-clause-told
@@ -14,3 +15,9 @@ pub returns-in-Err-clause-told : goal.returns-in-Err-clause-told
 returns-in-Err-clause-told g c = λ told channels kept.
     let spanned = c.in-Err.ensures.spanned told channels kept in
     (spanned.0, inl spanned.1, spanned.2, spanned.3)
+
+pub returns-in-Ok-clause-kept : goal.returns-in-Ok-clause-kept
+returns-in-Ok-clause-kept g c = kept_on c.tell_history.ensures.kept (ok_kept _ c.in-Ok.span c.in-Ok.ensures.kept)
+
+pub returns-in-Err-clause-kept : goal.returns-in-Err-clause-kept
+returns-in-Err-clause-kept g c = err_kept _ c.in-Err.why c.in-Err.ensures.kept

@@ -1,3 +1,5 @@
+use Rattle.std.proofs.Common.{inr}
+use Rattle.netflux_core.proofs.Failing.{ok_kept}
 use Rattle.netflux_core.proofs.Telling.{told_whole}
 use Rattle.netflux_core.proofs.history.tell_history.Goals as goal
 
@@ -8,3 +10,6 @@ returns-in-Ok-push_one-clause-told g c = λ told channels held suspense kept is 
           c.in-Ok.ensures pushed.0 c.in-Ok-push_one.ensures c.end_of.ensures.reply spanned,
       pushed.1,
     )
+
+pub returns-in-Ok-push_one-clause-kept : goal.returns-in-Ok-push_one-clause-kept
+returns-in-Ok-push_one-clause-kept g c = inr (ok_kept _ _ c.in-Ok-push_span.ensures.kept)

@@ -1,8 +1,10 @@
-use Rattle.std.proofs.Common.{rules, List, [], ◌∷◌, ◌++◌, sym, subst}
+use Rattle.std.proofs.Common.{◌≡◌, ◌⊎◌, inr, rules, List, [], ◌∷◌, ◌++◌, refl, sym, subst}
 use Rattle.disk_volume.specs.Moments.{still}
 use Rattle.disk_volume.specs.Lemmas.Since.{grew_then}
 use Rattle.serve_loop.specs.declared.out.Out.{Out}
 use Rattle.netflux_core.specs.Runs.{Runs, begins, goes_on}
+use Rattle.netflux_core.specs.Words.{HasStoreError}
+use Rattle.netflux_core.proofs.Failing.{kept_more}
 use Rattle.netflux_core.proofs.hub.Hub.run.Goals as goal
 
 pub loop-moment-init : goal.loop-moment-init
@@ -12,6 +14,7 @@ loop-moment-init g c = record {
   whole = c.requires.whole;
   sound = c.requires.sound;
   tie = c.requires.tie;
+  kept = inr refl;
   follows = g.met.V.Volume.follows_itself c.args.volume.now;
   later = search rules;
 }
@@ -31,6 +34,10 @@ loop-moment-preserved g c = record {
   whole = (c.in_ok-outs.ensures.served).whole;
   sound = c.in_ok-outs.ensures.sound;
   tie = λ told. c.in_ok-outs.ensures.tie told;
+  kept =
+      let V = g.V.Volume in
+      subst (λ (l : List (List Out)). HasStoreError l ⊎ (V.faults c.step.new.volume ≡ V.faults c.args.volume.now)) (sym c.in_ok-push.ensures.items)
+      (kept_more c.loop-moment.outputs.items c.in_ok-outs.outs (V.faults c.args.volume.now) (V.faults c.loop-moment.volume) (V.faults c.step.new.volume) c.loop-moment.invariant.kept c.in_ok-outs.ensures.kept);
   follows = g.met.V.Volume.follows_on c.args.volume.now c.loop-moment.volume c.step.new.volume c.loop-moment.invariant.follows c.step.ensures.follows;
   later = search rules;
 }

@@ -1,4 +1,4 @@
-use Rattle.std.proofs.Common.{inr, List, sym, subst}
+use Rattle.std.proofs.Common.{◌≡◌, ◌⊎◌, inr, List, refl, sym, subst}
 use Rattle.pad_edge.specs.Count.{Rose}
 use Rattle.disk_volume.specs.Moments.{still}
 use Rattle.netflux_rooms.specs.Machine.{Answer, stores, asks, Gives, Steps}
@@ -8,8 +8,9 @@ use Rattle.netflux_rooms.proofs.CallerLemmas.{steps_answer}
 use Rattle.serve_loop.specs.Hangs.{HangsBehind}
 use Rattle.serve_loop.specs.declared.out.Out.{Out}
 use Rattle.netflux_core.specs.Machine.{ServeState, Becomes, Step, StandsFor, Costs}
+use Rattle.netflux_core.specs.Words.{IsStoreError}
 use Rattle.netflux_core.proofs.Failing.{on_err}
-use Rattle.netflux_core.proofs.Steps.{IsDone, made_ends, step_of, broken_by, costs_of, made_costs, store_answer, ask_answer, stored_hangs, asked_hangs, store_closes, ask_closes}
+use Rattle.netflux_core.proofs.Steps.{IsDone, made_ends, step_of, broken_by, costs_of, made_costs, rooms_of, store_answer, ask_answer, stored_hangs, asked_hangs, store_closes, ask_closes}
 use Rattle.netflux_core.proofs.hub.Hub.step.Goals as goal
 
 pub returns-in_err-heard-clause-files : goal.returns-in_err-heard-clause-files
@@ -40,7 +41,7 @@ returns-in_ok-outs-in-Store-clause-step g c = λ told identities first state sta
     let V = g.V.Volume in let K = g.K.Keep in
     let got = steps_answer identities state.rooms c.args.event (Gives identities state.rooms c.in_ok-heard.heard c.step.new.self) (c.in_ok-heard.ensures.step identities state.rooms stands.rooms) in
     let is = store_answer identities state.rooms c.in-Store.number c.in-Store.seq c.in-Store.channel c.in-Store.content c.step.new.self got.0 (subst (λ (h : Heard). Gives identities state.rooms h c.step.new.self got.0) c.in-Store.is got.1) in
-    let end = c.in_ok-outs-in-Store.ensures.ends told identities first state (record { rooms = is.1; channels = stands.channels; disk_is = stands.disk_is; failures = stands.failures }) in
+    let end = c.in_ok-outs-in-Store.ensures.ends told identities first state (record { rooms = is.1; channels = stands.channels; disk_is = stands.disk_is; failures = stands.failures; unfailing = stands.unfailing }) in
     subst (λ (o : List Out). (next : ServeState) × Step K.logs identities state c.args.moment c.args.event o next × StandsFor (K.keeps c.store.new.keeper) identities c.step.new.self (V.disk c.store.new.volume) first (V.faults c.store.new.volume) next) (sym c.new-in-Store.ensures) (
       end.next,
       step_of K.logs identities first state c.args.moment c.args.event got.0 c.in_ok-outs-in-Store.outs.items end.next got.3
@@ -55,7 +56,7 @@ returns-in_err-outs-in-Store-clause-broken g c = λ told identities first state 
     let is = store_answer identities state.rooms c.in-Store.number c.in-Store.seq c.in-Store.channel c.in-Store.content c.step.new.self got.0 (subst (λ (h : Heard). Gives identities state.rooms h c.step.new.self got.0) c.in-Store.is got.1) in
     on_err c.from_residual-in_err-outs-in-Store.result (broken_by K.logs identities first state c.args.moment (V.disk c.args.volume.now) (V.disk c.store.new.volume) c.args.event got.0 (stores c.in-Store.number c.in-Store.seq c.in-Store.channel c.in-Store.content) stands.disk_is
     (c.crashes_leave_what_is_held.ensures c.args.keeper.now state.channels (V.disk c.args.volume.now) c.requires.sound stands.channels) is.0 got.3
-    (c.in_err-outs-in-Store.ensures.broken told identities first state (record { rooms = is.1; channels = stands.channels; disk_is = stands.disk_is; failures = stands.failures })))
+    (c.in_err-outs-in-Store.ensures.broken told identities first state (record { rooms = is.1; channels = stands.channels; disk_is = stands.disk_is; failures = stands.failures; unfailing = stands.unfailing })))
 
 pub returns-in_ok-outs-in-Store-clause-costs : goal.returns-in_ok-outs-in-Store-clause-costs
 returns-in_ok-outs-in-Store-clause-costs g c = λ identities rooms has.
@@ -85,7 +86,7 @@ returns-in_ok-outs-in-Ask-clause-step g c = λ told identities first state stand
     let V = g.V.Volume in let K = g.K.Keep in
     let got = steps_answer identities state.rooms c.args.event (Gives identities state.rooms c.in_ok-heard.heard c.step.new.self) (c.in_ok-heard.ensures.step identities state.rooms stands.rooms) in
     let is = ask_answer identities state.rooms c.in-Ask.number c.in-Ask.seq c.in-Ask.ask c.step.new.self got.0 (subst (λ (h : Heard). Gives identities state.rooms h c.step.new.self got.0) c.in-Ask.is got.1) in
-    let end = c.in_ok-outs-in-Ask.ensures.ends told identities first state (record { rooms = is.1; channels = stands.channels; disk_is = stands.disk_is; failures = stands.failures }) in
+    let end = c.in_ok-outs-in-Ask.ensures.ends told identities first state (record { rooms = is.1; channels = stands.channels; disk_is = stands.disk_is; failures = stands.failures; unfailing = stands.unfailing }) in
     subst (λ (o : List Out). (next : ServeState) × Step K.logs identities state c.args.moment c.args.event o next × StandsFor (K.keeps c.ask.new.keeper) identities c.step.new.self (V.disk c.ask.new.volume) first (V.faults c.ask.new.volume) next) (sym c.new-in-Ask.ensures) (
       end.next,
       step_of K.logs identities first state c.args.moment c.args.event got.0 c.in_ok-outs-in-Ask.outs.items end.next got.3
@@ -100,7 +101,7 @@ returns-in_err-outs-in-Ask-clause-broken g c = λ told identities first state st
     let is = ask_answer identities state.rooms c.in-Ask.number c.in-Ask.seq c.in-Ask.ask c.step.new.self got.0 (subst (λ (h : Heard). Gives identities state.rooms h c.step.new.self got.0) c.in-Ask.is got.1) in
     on_err c.from_residual-in_err-outs-in-Ask.result (broken_by K.logs identities first state c.args.moment (V.disk c.args.volume.now) (V.disk c.ask.new.volume) c.args.event got.0 (asks c.in-Ask.number c.in-Ask.seq c.in-Ask.ask) stands.disk_is
     (c.crashes_leave_what_is_held.ensures c.args.keeper.now state.channels (V.disk c.args.volume.now) c.requires.sound stands.channels) is.0 got.3
-    (inr (c.in_err-outs-in-Ask.ensures.broken told identities first state (record { rooms = is.1; channels = stands.channels; disk_is = stands.disk_is; failures = stands.failures }))))
+    (inr (c.in_err-outs-in-Ask.ensures.broken told identities first state (record { rooms = is.1; channels = stands.channels; disk_is = stands.disk_is; failures = stands.failures; unfailing = stands.unfailing }))))
 
 pub returns-in_ok-outs-in-Ask-clause-costs : goal.returns-in_ok-outs-in-Ask-clause-costs
 returns-in_ok-outs-in-Ask-clause-costs g c = λ identities rooms has.
@@ -124,3 +125,28 @@ returns-in_ok-outs-in-Ask-clause-served g c =
       closes = ask_closes w.identities w.rooms c.in-Ask.number c.in-Ask.seq c.in-Ask.ask c.step.new.self c.args.event (connections_of c.args.self.now.rooms) (connections_of c.step.new.self) c.new-in-Ask.result
           (subst (λ (h : Heard). Steps w.identities w.rooms c.args.event (Gives w.identities w.rooms h c.step.new.self)) c.in-Ask.is steps);
     }
+
+pub returns-in-Done-clause-rooms : goal.returns-in-Done-clause-rooms
+returns-in-Done-clause-rooms g c = λ identities rooms has.
+    rooms_of identities rooms c.args.event c.in_ok-heard.heard c.step.new.self (c.in_ok-heard.ensures.step identities rooms has)
+
+pub returns-in_ok-outs-in-Store-clause-rooms : goal.returns-in_ok-outs-in-Store-clause-rooms
+returns-in_ok-outs-in-Store-clause-rooms g c = λ identities rooms has.
+    rooms_of identities rooms c.args.event c.in_ok-heard.heard c.step.new.self (c.in_ok-heard.ensures.step identities rooms has)
+
+pub returns-in_ok-outs-in-Ask-clause-rooms : goal.returns-in_ok-outs-in-Ask-clause-rooms
+returns-in_ok-outs-in-Ask-clause-rooms g c = λ identities rooms has.
+    rooms_of identities rooms c.args.event c.in_ok-heard.heard c.step.new.self (c.in_ok-heard.ensures.step identities rooms has)
+
+pub returns-in_ok-outs-in-Store-clause-kept : goal.returns-in_ok-outs-in-Store-clause-kept
+returns-in_ok-outs-in-Store-clause-kept g c =
+    let V = g.V.Volume in
+    subst (λ (o : List Out). IsStoreError o ⊎ (V.faults c.store.new.volume ≡ V.faults c.args.volume.now)) (sym c.new-in-Store.ensures) c.in_ok-outs-in-Store.ensures.kept
+
+pub returns-in_ok-outs-in-Ask-clause-kept : goal.returns-in_ok-outs-in-Ask-clause-kept
+returns-in_ok-outs-in-Ask-clause-kept g c =
+    let V = g.V.Volume in
+    subst (λ (o : List Out). IsStoreError o ⊎ (V.faults c.ask.new.volume ≡ V.faults c.args.volume.now)) (sym c.new-in-Ask.ensures) c.in_ok-outs-in-Ask.ensures.kept
+
+pub returns-in-Done-clause-kept : goal.returns-in-Done-clause-kept
+returns-in-Done-clause-kept g c = inr refl

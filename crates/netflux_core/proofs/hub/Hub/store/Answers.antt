@@ -5,7 +5,7 @@ use Rattle.disk_volume.specs.Lemmas.Since.{grew_within}
 use Rattle.disk_volume.specs.Moments.{still}
 use Rattle.netflux_rooms.specs.Machine.{posted}
 use Rattle.netflux_core.specs.Words.{Refuses}
-use Rattle.netflux_core.proofs.Failing.{failures_rise, as_err, on_err}
+use Rattle.netflux_core.proofs.Failing.{failures_rise, none_failed, ok_kept, told_or_kept, at_ok, as_err, on_err}
 use Rattle.netflux_core.proofs.Steps.{refusal}
 use Rattle.netflux_core.proofs.Storing.{stored_ends, stored_breaks}
 use Rattle.netflux_core.proofs.hub.Hub.store.Goals as goal
@@ -20,7 +20,8 @@ returns-in-Ok-clause-ends g c = λ told identities first state stands.
     (λ outs gives. stored_ends K.logs (K.keeps c.args.keeper.now) (K.keeps c.store_entry.new.self) identities c.args.self.now.rooms first (V.faults c.args.volume.now) (V.faults c.store_entry.new.volume) state
     c.args.moment c.args.number c.args.seq c.in_ok-sender.sender c.args.channel.now c.args.content old new stands named
     (Ok c.in-Ok.field-0) stored.0 outs.items stored.1 stored.2 gives stored.3
-    (failures_rise first state.failures (V.faults c.args.volume.now) (V.faults c.store_entry.new.volume) (Ok c.in-Ok.field-0) stands.failures (λ e. c.in-Ok.ensures.store e) c.store_entry.ensures.later))
+    (failures_rise first state.failures (V.faults c.args.volume.now) (V.faults c.store_entry.new.volume) (Ok c.in-Ok.field-0) stands.failures (λ e. c.in-Ok.ensures.store e) c.store_entry.ensures.later)
+    (none_failed first state.failures (V.faults c.args.volume.now) (V.faults c.store_entry.new.volume) (Ok c.in-Ok.field-0) stands.unfailing c.in-Ok.ensures.kept))
     (c.post.ensures identities state.rooms stands.rooms)
 
 pub returns-in-Ok-clause-broken : goal.returns-in-Ok-clause-broken
@@ -54,7 +55,8 @@ returns-in-Err-clause-ends g c = λ told identities first state stands.
     (λ outs gives. stored_ends K.logs (K.keeps c.args.keeper.now) (K.keeps c.store_entry.new.self) identities c.args.self.now.rooms first (V.faults c.args.volume.now) (V.faults c.store_entry.new.volume) state
     c.args.moment c.args.number c.args.seq c.in_ok-sender.sender c.args.channel.now c.args.content old new stands named
     (Err c.in-Err.why) stored.0 outs.items stored.1 stored.2 (subst (λ (about : List ℕ). Refuses c.args.number c.args.seq about c.in-Err.why outs.items) c.as_str.ensures.value gives) stored.3
-    (failures_rise first state.failures (V.faults c.args.volume.now) (V.faults c.store_entry.new.volume) (Err c.in-Err.why) stands.failures (λ e. c.in-Err.ensures.store e) c.store_entry.ensures.later))
+    (failures_rise first state.failures (V.faults c.args.volume.now) (V.faults c.store_entry.new.volume) (Err c.in-Err.why) stands.failures (λ e. c.in-Err.ensures.store e) c.store_entry.ensures.later)
+    (none_failed first state.failures (V.faults c.args.volume.now) (V.faults c.store_entry.new.volume) (Err c.in-Err.why) stands.unfailing c.in-Err.ensures.kept))
     c.refused.ensures
 
 pub returns-in-Err-clause-broken : goal.returns-in-Err-clause-broken
@@ -91,4 +93,14 @@ returns-in-Err-clause-costs g c = λ identities rooms is.
     IfOk-weaker c.refused.result (λ outs. Refuses c.args.number c.args.seq c.as_str.result.now c.in-Err.why outs.items) _
     (λ outs gives. inr (refusal (Rose (V.faults c.args.volume.now) (V.faults c.store_entry.new.volume)) c.args.number c.args.seq c.args.channel.now c.in-Err.why outs.items (λ e. c.in-Err.ensures.store (as_err c.in-Err.why e))
     (subst (λ (about : List ℕ). Refuses c.args.number c.args.seq about c.in-Err.why outs.items) c.as_str.ensures.value gives)))
+    c.refused.ensures
+
+pub returns-in-Ok-clause-kept : goal.returns-in-Ok-clause-kept
+returns-in-Ok-clause-kept g c = at_ok c.post.result _ (λ outs. inr (ok_kept _ c.in-Ok.field-0 c.in-Ok.ensures.kept))
+
+pub returns-in-Err-clause-kept : goal.returns-in-Err-clause-kept
+returns-in-Err-clause-kept g c =
+    let V = g.V.Volume in
+    IfOk-weaker c.refused.result (λ outs. Refuses c.args.number c.args.seq c.as_str.result.now c.in-Err.why outs.items) _
+    (λ outs gives. told_or_kept (V.faults c.store_entry.new.volume ≡ V.faults c.args.volume.now) c.args.number c.args.seq c.as_str.result.now c.in-Err.why outs.items c.in-Err.ensures.kept gives)
     c.refused.ensures
