@@ -32,6 +32,8 @@ pub(crate) fn replay<I: Source, L: Ledger>(
     let mut steps = Steps::<L>::new(blank);
     let bytes = read_all(alloc, input)?;
     let received = receive_lines(alloc, bytes.as_slice(), &mut steps)?;
+    // the report takes the room of the input
+    drop(bytes);
     let text = received.report(alloc)?;
     Ok(text)
 }
