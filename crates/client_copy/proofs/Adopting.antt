@@ -23,7 +23,7 @@ use Rattle.pad_stroke.specs.Work.{Marked, moved_to}
 use Rattle.pad_row.specs.Pairs.{IsPairedWork, AreTyped, MovedWhole, MovedTyped}
 use Rattle.pad_chain.specs.Tie.{StandsFor}
 use Rattle.client_work.specs.Switch.{SentWorks, sent_as}
-use Rattle.client_copy.specs.Inside.Held.{IsHeldOn}
+use Rattle.client_copy.specs.Held.{IsHeldOn}
 use Rattle.client_copy.specs.Pad.{begun}
 use Rattle.client_copy.specs.State.{Copy}
 use Rattle.client_copy.specs.Adopt.{Adopts}

@@ -14,7 +14,7 @@ use Rattle.pad_branch.specs.declared.moved.Move.{Move}
 use Rattle.pad_chain.specs.Leads.{Leads}
 use Rattle.client_work.specs.Switch.{SentWorks, sent_as}
 use Rattle.client_work.specs.Carrying.{Ground, behind, behind_all, IsOnGround, IsCarried, AreCarried, AreReady}
-use Rattle.client_copy.specs.Inside.Held.{IsHeldOn}
+use Rattle.client_copy.specs.Held.{IsHeldOn}
 
 abbrev pub InsertsText : Operation → Type 0
 InsertsText operation = IsText operation.insert

@@ -19,7 +19,7 @@ use Rattle.pad_row.specs.Edits.{IsFresh, AllowedApplies, TypedWhole, MarksOfStro
 use Rattle.pad_row.specs.Pairs.{TurnWhole, TurnTyped}
 use Rattle.client_work.specs.Switch.{SentWorks, sent_as}
 use Rattle.client_work.specs.Carrying.{IsOwnWork, IsCarried}
-use Rattle.client_copy.specs.Inside.Held.{IsHeldOn}
+use Rattle.client_copy.specs.Held.{IsHeldOn}
 use Rattle.client_copy.proofs.Behind.{IsGiven, ground_on}
 
 -- no mark has the next stroke

@@ -4,3 +4,4 @@ pub mod Editing
 pub mod Following
 pub mod Adopting
 pub mod New
+pub mod Adoptable

@@ -9,7 +9,7 @@ use Rattle.pad_model.specs.Choice.{first_choice}
 use Rattle.pad_stroke.specs.Work.{Marked, empty}
 use Rattle.pad_chain.specs.Tie.{StandsFor}
 use Rattle.client_work.specs.Switch.{SentWorks, sent_as}
-use Rattle.client_copy.specs.Inside.Held.{IsHeldOn}
+use Rattle.client_copy.specs.Held.{IsHeldOn}
 use Rattle.client_copy.specs.State.{new_copy}
 use Rattle.client_copy.specs.View.{View, StandsAs}
 use Rattle.client_copy.proofs.Behind.{none_some, empty_on}

@@ -3,5 +3,5 @@ pub mod State
 pub mod Calls
 pub mod Receive
 pub mod Adopt
+pub mod Held
 pub mod View
-pub mod Inside

@@ -5,10 +5,10 @@ ghost use Rattle.pad_text.specs.Text.{IsText};
 ghost use Rattle.pad_text.specs.Hash.{document_hash};
 ghost use Rattle.pad_patch.specs.Misfit.{longest_text};
 ghost use Rattle.pad_patch.specs.Piece.{text_after};
-ghost use Rattle.pad_stroke.specs.Edit.{IsAllowed, IsCause, edited};
+ghost use Rattle.pad_stroke.specs.Edit.{IsAllowed, IsCause, shown_after, edited};
 ghost use Rattle.client_work.specs.Switch.{switched};
 ghost use Rattle.client_work.specs.Carrying.{Ground, behind_all, IsOnGround, AreInverses, AreReady, all_moves};
-ghost use Rattle.client_copy.specs.Inside.Held.{IsHeldOn};
+ghost use Rattle.client_copy.specs.Held.{IsHeldOn};
 
 use client_work::carry;
 use pad_chain::{Chain, Moved};
@@ -45,6 +45,7 @@ pub(crate) fn edit_work<S: UnitStore>(
     requires left { strokes.old < 2 ^ 64 - 1 }
     ensures held { IsHeldOn (S.units text.now) work.new sent.now.entries strokes.new }
     ensures edited { OnOk result (work.new ≡ edited work.old op (strokes.old + 1) (length (S.units text.now))) }
+    ensures shown { OnOk result (text_after work.new.patch (S.units text.now) ≡ shown_after op (text_after work.old.patch (S.units text.now))) }
     ensures counted { OnOk result (strokes.new ≡ strokes.old + 1) }
     ensures allowed { OnOk result (IsAllowed (text_after work.old.patch (S.units text.now)) op) }
     ensures cause { IfErr result (IsCause (text_after work.old.patch (S.units text.now)) op) }

@@ -1,11 +1,14 @@
 //! The working copy: a chain, unsent work, and the works that were sent.
 
-ghost use Rattle.std.specs.Prelude.{◌≡◌, ◌<◌, ◌^◌, ◌-◌, length, IfOk, IfErr, OnOk, OnErr};
+ghost use Rattle.std.specs.Prelude.{◌≡◌, ◌<◌, ◌^◌, ◌-◌, [], length, IfOk, IfErr, OnOk, OnErr};
 ghost use Rattle.pad_patch.specs.Piece.{text_after};
-ghost use Rattle.pad_stroke.specs.Edit.{IsCause};
+ghost use Rattle.pad_model.specs.Base.{first_base};
+ghost use Rattle.pad_stroke.specs.Edit.{IsCause, shown_after};
+ghost use Rattle.pad_chain.specs.Knows.{Knows};
 ghost use Rattle.client_copy.specs.State.{Copy, new_copy};
 ghost use Rattle.client_copy.specs.Calls.{Edits};
 ghost use Rattle.client_copy.specs.Pad.{committed};
+ghost use Rattle.client_copy.specs.Held.{IsHeldOn};
 ghost use Rattle.client_copy.specs.View.{StandsAs};
 
 mod adopting;
@@ -34,7 +37,7 @@ pub struct WorkingCopy<S: UnitStore> {
 
 impl<S: UnitStore> Model for WorkingCopy<S> {
     ghost use Rattle.client_copy.specs.View.{View};
-    ghost use Rattle.client_copy.specs.Inside.Held.{IsHeldOn};
+    ghost use Rattle.client_copy.specs.Held.{IsHeldOn};
 
     ghost Value = { View };
 
@@ -46,7 +49,8 @@ impl<S: UnitStore> Model for WorkingCopy<S> {
 impl<S: UnitStore> WorkingCopy<S> {
     /// A working copy of the first base, to which nothing came yet, without work.
     pub fn new(alloc: Global) -> Result<WorkingCopy<S>, AllocError>
-        ensures { IfOk result (λ copy. StandsAs copy new_copy) }
+        ensures stands { IfOk result (λ copy. StandsAs copy new_copy) }
+        ensures knows { IfOk result (λ copy. Knows copy.pad.chain first_base []) }
     {
         let chain = Chain::new(alloc)?;
         has_text(&chain);
@@ -84,9 +88,10 @@ impl<S: UnitStore> WorkingCopy<S> {
         self.base
     }
 
-    /// Lends the work that was not sent.
+    /// Lends the work that was not sent. It can be applied to the committed text, and was made for it.
     pub fn work(&self) -> &Work
-        ensures { result.now ≡ self.now.work }
+        ensures is { result.now ≡ self.now.work }
+        ensures held { IsHeldOn self.now.pad.chain.branch.branch.units self.now.work self.now.sent self.now.strokes }
     {
         &self.work
     }
@@ -112,6 +117,8 @@ impl<S: UnitStore> WorkingCopy<S> {
     pub fn edit(&mut self, alloc: Global, op: Operation) -> Result<(), EditRefused>
         requires { self.old.strokes < 2 ^ 64 - 1 }
         ensures edits { OnOk result (Edits self.old.pad.chain.branch.branch.units self.old op self.new) }
+        ensures shown { OnOk result (text_after self.new.work.patch self.old.pad.chain.branch.branch.units
+            ≡ shown_after op (text_after self.old.work.patch self.old.pad.chain.branch.branch.units)) }
         ensures cause { IfErr result (IsCause (text_after self.old.work.patch self.old.pad.chain.branch.branch.units) op) }
         ensures unchanged { OnErr result (self.new ≡ self.old) }
     {

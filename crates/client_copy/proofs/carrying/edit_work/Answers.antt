@@ -1,6 +1,6 @@
 use Rattle.std.proofs.Common.{◌+◌, sym, subst, arith}
 use Rattle.pad_stroke.specs.Work.{Marked}
-use Rattle.client_copy.specs.Inside.Held.{IsHeldOn}
+use Rattle.client_copy.specs.Held.{IsHeldOn}
 use Rattle.client_copy.proofs.Behind.{short_fits}
 use Rattle.client_copy.proofs.Editing.{fresh, edit_held}
 use Rattle.client_copy.proofs.carrying.edit_work.Goals as goal

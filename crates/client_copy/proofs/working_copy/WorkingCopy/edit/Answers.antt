@@ -1,5 +1,5 @@
 use Rattle.std.proofs.Common.{List, ℕ, sym, ap, subst}
-use Rattle.client_copy.specs.Inside.Held.{IsHeldOn}
+use Rattle.client_copy.specs.Held.{IsHeldOn}
 use Rattle.client_copy.proofs.working_copy.WorkingCopy.edit.Goals as goal
 
 pub edit_work-requires-clause-held : goal.edit_work-requires-clause-held

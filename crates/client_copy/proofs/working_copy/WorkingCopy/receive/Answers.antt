@@ -1,4 +1,4 @@
-use Rattle.std.proofs.Common.{◌≡◌, ◌∷◌, ℕ, Bool, List, [], length, refl, sym, ◌∙◌, ap, subst}
+use Rattle.std.proofs.Common.{◌≡◌, ◌∷◌, ℕ, ◌+◌, ◌≤◌, Bool, List, [], length, refl, sym, ◌∙◌, ap, subst}
 use Rattle.std.proofs.lemmas.Result.{err_from_is_err_and}
 use Rattle.pad_text.specs.declared.name.Name.{Name}
 use Rattle.pad_model.specs.Path.{NamesDiffer}
@@ -6,11 +6,13 @@ use Rattle.pad_patch.specs.declared.operation.Operation.{Operation}
 use Rattle.pad_stroke.specs.Work.{Marked, empty, moved_to}
 use Rattle.pad_branch.specs.Branch as branch
 use Rattle.pad_chain.specs.State as chains
+use Rattle.pad_chain.specs.Tie.{StandsFor}
+use Rattle.pad_chain.specs.Knows.{Knows}
 use Rattle.client_work.specs.Switch.{SentWorks}
 use Rattle.client_work.specs.Carrying.{all_moves}
 use Rattle.client_copy.specs.State.{Copy}
 use Rattle.client_copy.specs.Pad.{committed}
-use Rattle.client_copy.specs.Inside.Held.{IsHeldOn}
+use Rattle.client_copy.specs.Held.{IsHeldOn}
 use Rattle.client_copy.specs.Receive.{Follows}
 use Rattle.client_copy.specs.View.{View, NoClash, StandsAs}
 use Rattle.client_copy.proofs.Behind.{ground_on, ready_of, along_held, removes_none}
@@ -73,3 +75,34 @@ returns-clause-follows g c copy stands clash =
     (sym c.text.ensures.is ∙ c.text.ensures.stands copy.pad.base copy.pad.received copy.pad.choice chain_stands) c.in_ok-moved.ensures.leads c.self.invariant.made
     (λ inverses made. c.in_ok-bring_along.ensures.switched (ground_on i.chain.branch.branch.units c.self.invariant.typed i.strokes) ready inverses (made ∙ sym c.hash-end.ensures.is))
     refl refl refl refl
+
+pub returns-in_err-moved-clause-limit : goal.returns-in_err-moved-clause-limit
+returns-in_err-moved-clause-limit g c = let p = err_from_is_err_and c.from_residual-in_err-moved.result c.from_residual-in_err-moved.ensures.1 in rw (p.1, p.2) (λ is base received knows.
+    c.in_err-moved.ensures.limit is base received (subst (λ (v : View). Knows v.pad.chain base received) (sym c.self.view_is) knows))
+
+pub returns-in_err-bring_along-clause-grows : goal.returns-in_err-bring_along-clause-grows
+returns-in_err-bring_along-clause-grows g c base received knows =
+    subst (λ (v : View). c.receive_named.new.self.graph.known ≤ v.pad.chain.graph.known + 1) c.self.view_is
+    (c.receive_named.ensures.grows base received (subst (λ (v : View). Knows v.pad.chain base received) (sym c.self.view_is) knows))
+
+pub returns-clause-grows : goal.returns-clause-grows
+returns-clause-grows g c base received knows =
+    subst (λ (v : View). c.receive_named.new.self.graph.known ≤ v.pad.chain.graph.known + 1) c.self.view_is
+    (c.receive_named.ensures.grows base received (subst (λ (v : View). Knows v.pad.chain base received) (sym c.self.view_is) knows))
+
+pub returns-clause-elsewhere : goal.returns-clause-elsewhere
+returns-clause-elsewhere g c base received knows full =
+    let same = c.in_ok-moved.ensures.exact base received (subst (λ (v : View). Knows v.pad.chain base received) (sym c.self.view_is) knows) full in cc
+
+pub returns-clause-room : goal.returns-clause-room
+returns-clause-room g c copy stands full =
+    let stood : StandsFor c.self.inside.chain copy.pad.base copy.pad.received copy.pad.choice =
+    subst (λ (v : View). StandsFor v.pad.chain copy.pad.base copy.pad.received copy.pad.choice) (sym c.self.view_is) stands.pad.stands in
+    let same = c.in_ok-moved.ensures.exact copy.pad.base copy.pad.received
+    (c.stood_is_known.ensures c.self.inside.chain copy.pad.base copy.pad.received copy.pad.choice stood) full in cc
+
+pub returns-clause-cost : goal.returns-clause-cost
+returns-clause-cost g c base received choice depth rise stands within found =
+    c.in_ok-moved.ensures.cost base received choice depth rise
+    (subst (λ (v : View). StandsFor v.pad.chain base received choice) (sym c.self.view_is) stands) within
+    (subst (λ (v : View). length c.receive_named.new.self.found ≡ length v.pad.chain.found + rise) (sym c.self.view_is) found)

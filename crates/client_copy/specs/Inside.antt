@@ -1,2 +1,0 @@
--- Words that only private functions use.
-pub mod Held
