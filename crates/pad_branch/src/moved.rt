@@ -38,7 +38,7 @@ pub fn applied(
     requires held { (name : Name) → IfSome (get name_cmp messages.now name) (IsHeldAs name) }
     ensures { IfOk result (λ moves. moves.items ≡ map move_on (messages_at (get name_cmp messages.now) (map undone_name undos.now))) }
 {
-    let mut moves = Vec::new(alloc);
+    let mut moves = Vec::with_capacity(alloc, undos.len())?;
     for undo in undos {
         let Some(held) = messages.get(&undo.after.name) else {
             continue;
