@@ -1,5 +1,5 @@
 -- What reading entries gives, and leaves.
-use Rattle.std.proofs.Common.{◌≡◌, ◌∙◌, ◌⊎◌, inl, inr, ℕ, zero, suc, ◌+◌, List, [], ◌∷◌, ◌++◌, take, drop, Some, None, Option, Result, Ok, Err, IsErrOf, IfOk, MatchResult, length, refl, sym, ap, subst, arith}
+use Rattle.std.proofs.Common.{◌≡◌, ◌∙◌, inr, ℕ, zero, suc, ◌+◌, List, [], ◌∷◌, ◌++◌, take, drop, Some, None, Option, Result, Ok, Err, IsErrOf, IfOk, MatchResult, length, refl, sym, ap, subst, arith}
 use Rattle.std.specs.Prelude.{slice_get}
 use Rattle.log_format.specs.declared.damage.Damage.{Damage}
 use Rattle.keeper_channel.specs.declared.refused.KeeperRefused.{KeeperRefused}
@@ -12,7 +12,7 @@ use Rattle.netflux_codec.specs.declared.since.Since.TheVariants as since
 use Rattle.keeper_entry.specs.History.{first_from}
 use Rattle.keeper_log.specs.Answer.{answer_of, answer_in}
 use Rattle.keeper_table.specs.Span.{span_in, found_at, Counts}
-use Rattle.keeper_state.specs.State.{State, live, again, Found, HasPlace, Reaches, AnswersByReading, ReadRefused}
+use Rattle.keeper_state.specs.State.{State, live, again, Found, HasPlace, Reaches, Answers, AnswersByReading, ReadRefused}
 use Rattle.keeper_log.specs.declared.answer.Answer.{Answer}
 use Rattle.keeper_table.specs.declared.span.Span.{Span}
 
@@ -75,3 +75,12 @@ reads_from Stands finds size state held suspense from span (Ok answer) left righ
     (live held suspense, (place, held, suspense, reaches, (right ∙ ap (answer_of held) is, refl)), left)
 reads_from Stands finds size state held suspense from span (Err refused) left right is place reaches =
     (left.0, inr (place, held, suspense, reaches, left.1), left.2)
+
+-- a channel that was woken answers by its list
+pub answered : {T : Type 0} (Stands : State → Type 0) (finds : Found → Type 0) (size : ℕ) (state : State) (Is : List (List ℕ) → T → Type 0) (told : T)
+    → ((next : State) × Answers finds size state (λ held woken. Unit {0}) (Ok (tt {0})) next × Stands next)
+    → ((held suspense : List (List ℕ)) → Stands (live held suspense) → Is held told)
+    → (next : State) × Answers finds size state Is (Ok told) next × Stands next
+answered Stands finds size state Is told was by =
+    let here = subst Stands was.1.4.1 was.2 in
+    (live was.1.1 was.1.2, (was.1.0, was.1.1, was.1.2, was.1.3, (by was.1.1 was.1.2 here, refl)), here)

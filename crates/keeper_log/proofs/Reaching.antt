@@ -1,5 +1,5 @@
 -- Whether a call comes to a channel's list.
-use Rattle.std.proofs.Common.{◌≡◌, ◌∙◌, ◌↔◌, ◌⊎◌, inl, inr, ◌≤◌, ℕ, Bool, true, false, IsTrue, Option, Some, None, sym, arith}
+use Rattle.std.proofs.Common.{◌≡◌, ◌∙◌, ◌↔◌, inl, inr, ◌≤◌, ℕ, Bool, true, false, IsTrue, Option, None, sym, arith}
 use Rattle.std.proofs.lemmas.Bool.Decides.{leb_tells}
 use Rattle.keeper_channel.specs.Slot.{NamesIt}
 use Rattle.keeper_channel.specs.declared.refused.KeeperRefused.{KeeperRefused}

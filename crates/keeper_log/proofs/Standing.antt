@@ -1,12 +1,11 @@
 -- What the keeper's table has of a channel, and what a crash leaves of it.
-use Rattle.std.proofs.Common.{◌≡◌, ◌∙◌, ◌⊎◌, inl, inr, ℕ, ◌++◌, List, Option, Some, None, IfSome, refl, sym, ap, subst}
+use Rattle.std.proofs.Common.{◌≡◌, ◌∙◌, ℕ, List, Option, Some, None, IfSome, refl, sym, ap, subst}
 use Rattle.disk_volume.specs.Disk.{Disk, reads}
 use Rattle.disk_volume.specs.Moments.{moment, EachNow, EachSince}
 use Rattle.disk_volume.specs.Lemmas.Since.{since_now}
 use Rattle.log_format.specs.declared.damage.Damage.{Damage}
 use Rattle.log_format.specs.declared.form.Form.{Form}
 use Rattle.log_format.specs.declared.form.Form.TheVariants.{One, Two}
-use Rattle.keeper_channel.specs.Logs.{IsFound}
 use Rattle.keeper_channel.specs.Slot.{HasDamage, IsReloaded, IsSlotFound, Keeps}
 use Rattle.keeper_channel.specs.declared.slot.Slot.{Slot}
 use Rattle.keeper_table.specs.Files.{file_one, file_two}
@@ -39,6 +38,22 @@ stands_synced rests_one rests_two opens_one opens_two doubt holds_one holds_two 
     not_both found stands.0 none stands.1
 stands_synced rests_one rests_two opens_one opens_two doubt holds_one holds_two channel found (again list doubtful) old new by_one by_two by none stands =
     (stands.0, λ image now. by list doubtful stands.1 image (since_now (moment old) new image now))
+
+-- and each crash since it began leaves what was held before
+pub load_left : {O G : Type 0} (rests_one rests_two : Form → List ℕ → Disk → Type 0) (opens_one opens_two : Opens) (doubt : Doubts) (damage_one damage_two : Damages)
+    (holds_one : O → List (List ℕ) → Disk → Type 0) (holds_two : G → List (List ℕ) → Disk → Type 0) (channel : List ℕ) (old new : Disk)
+    → (rests_one One (file_one channel) old → rests_one One (file_one channel) new) → (rests_two Two (file_two channel) old → rests_two Two (file_two channel) new)
+    → ((h s : List (List ℕ)) → EachNow old (HoldsWithin opens_one opens_two channel h s) → EachSince old new (HoldsWithin opens_one opens_two channel h s))
+    → ((found : Option (Option (Slot O G))) (state : State) (h s : List (List ℕ)) → joined found ≡ None → StandsFor rests_one rests_two opens_one opens_two doubt holds_one holds_two channel found state old
+    → Has (Finds opens_one opens_two doubt damage_one damage_two channel (reads old)) state h s → EachNow old (HoldsWithin opens_one opens_two channel h s))
+    → ((found : Option (Option (Slot O G))) (state : State) → joined found ≡ None → StandsFor rests_one rests_two opens_one opens_two doubt holds_one holds_two channel found state old
+    → StandsFor rests_one rests_two opens_one opens_two doubt holds_one holds_two channel found state new)
+    × ((found : Option (Option (Slot O G))) (state : State) → joined found ≡ None → StandsFor rests_one rests_two opens_one opens_two doubt holds_one holds_two channel found state old
+    → LeavesList opens_one opens_two channel (Finds opens_one opens_two doubt damage_one damage_two channel (reads old)) state old new)
+load_left rests_one rests_two opens_one opens_two doubt damage_one damage_two holds_one holds_two channel old new by_one by_two since now = (
+  λ found state none stands. stands_synced rests_one rests_two opens_one opens_two doubt holds_one holds_two channel found state old new by_one by_two since none stands,
+  λ found state none stands h s has. since h s (now found state h s none stands has),
+)
 
 -- a load came to a list
 pub reached_by : {O G : Type 0} (rests_one rests_two : Form → List ℕ → Disk → Type 0) (opens_one opens_two : Opens) (doubt : Doubts) (damage_one damage_two : Damages)

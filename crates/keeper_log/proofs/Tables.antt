@@ -1,11 +1,14 @@
 -- One channel of a keeper's table is written.
-use Rattle.std.proofs.Common.{◌≡◌, ◌∙◌, ℕ, ◌+◌, ◌<◌, ◌≤◌, Bool, true, false, List, Option, None, Some, is_some, IsSome, IfSome, bytes_eq, refl, sym, ap, subst}
+use Rattle.std.proofs.Common.{◌≡◌, ◌∙◌, ◌↔◌, inl, inr, ℕ, ◌+◌, ◌<◌, ◌≤◌, Bool, true, false, IsTrue, List, Option, None, Some, Result, Ok, Err, is_some, IsSome, IfSome, bytes_eq, if◌then◌else◌, refl, sym, ap, subst, arith}
+use Rattle.std.proofs.lemmas.Bool.Decides.{leb_tells}
 use Rattle.std.proofs.lemmas.Slice.Eq.{bytes_eq-Decides}
 use Rattle.keeper_table.specs.Span.{Counts, EachBefore, HasAtMost}
 use Rattle.keeper_table.specs.declared.span.Span.{Span}
 use Rattle.keeper_table.specs.declared.span.Span.TheVariants.{Found, Unknown}
-use Rattle.keeper_table.specs.Table.{channel_in, slot_in, joined, newly}
+use Rattle.keeper_table.specs.Table.{channel_in, slot_in, joined, size_of, newly, IsOneTooMany}
 use Rattle.keeper_table.specs.declared.table.Table.{Table}
+use Rattle.keeper_table.specs.declared.table.TheConstants.{MOST_CHANNELS}
+use Rattle.keeper_log.specs.Inside.Taking.{ReadsOf}
 
 -- what holds of each slot holds of each after it, if it holds of the channel's
 pub keeper_on : {S : Type 0} (Is : (channel : List ℕ) → S → Type 0) (old new : Table S) (channel : List ℕ)
@@ -89,3 +92,57 @@ newly_known None None None e = refl
 newly_known None (Some a) (Some b) e = refl
 newly_known None None (Some b) e = absurd (cc)
 newly_known None (Some a) None e = absurd (cc)
+
+-- two slots of one place
+pub one_slot : {S : Type 0} (one other : S) → Some one ≡ Some other → one ≡ other
+one_slot one other same = cc
+
+same_slot : {S E : Type 0} (result : Result S E) (one other : S) → result ≡ Ok one → result ≡ Ok other → one ≡ other
+same_slot result one other is same = cc
+
+no_slot_taken : {S E A : Type 0} (result : Result S E) (refused : E) (slot : S) → result ≡ Err refused → result ≡ Ok slot → A
+no_slot_taken result refused slot is same = absurd (cc)
+
+-- a slot that was taken is the one that was there
+pub taken_same : {S E : Type 0} (found : Option S) (P : Type 0) (result : Result S E) (one : S) (Other : S → Type 0) → result ≡ Ok one → ((slot : S) → P → one ≡ slot → Other slot)
+    → IfSome found (λ slot. P × (result ≡ Ok slot)) → IfSome found Other
+taken_same None P result one Other is by taken = tt
+taken_same (Some slot) P result one Other is by taken = by slot taken.0 (same_slot result one slot is taken.1)
+
+-- and one that is there is taken
+pub taken_never : {S E : Type 0} (found : Option S) (P : Type 0) (result : Result S E) (refused : E) (Other : S → Type 0) → result ≡ Err refused
+    → IfSome found (λ slot. P × (result ≡ Ok slot)) → IfSome found Other
+taken_never None P result refused Other is taken = tt
+taken_never (Some slot) P result refused Other is taken = no_slot_taken result refused slot is taken.1
+
+-- a channel with a slot is none too many
+pub loaded_fits : {S A : Type 0} (found : Option (Option S)) (slot : S) → Some slot ≡ joined found → found ≡ None → A
+loaded_fits {S} found slot is none = let e : Some slot ≡ None = is ∙ ap joined none in absurd (cc)
+
+-- whether a channel is one too many follows from what the table has of it, and from its size
+pub too_many_on : {S : Type 0} (one other : Table S) (channel : List ℕ) → channel_in one channel ≡ channel_in other channel → size_of one ≡ size_of other
+    → IsOneTooMany one channel → IsOneTooMany other channel
+too_many_on one other channel found size many = (subst (λ (n : ℕ). MOST_CHANNELS ≤ n) size many.0, sym found ∙ many.1)
+
+-- a channel that is added is one more, if it was not there
+pub newly_added : {S : Type 0} (found new : Option (Option S)) → new ≡ Some None → newly found new ≡ (if is_some found then 0 else 1)
+newly_added None new is = ap (newly None) is
+newly_added (Some found) new is = refl
+
+-- a table that was not full has a place
+pub few_added : {S : Type 0} (found : Option (Option S)) (full : Bool) (size more : ℕ) → full ≡ false → (IsTrue full ↔ ((MOST_CHANNELS ≤ size) × (found ≡ None)))
+    → size ≤ MOST_CHANNELS → more ≡ size + (if is_some found then 0 else 1) → more ≤ MOST_CHANNELS
+few_added None full size more free exactly few is = elim (leb_tells MOST_CHANNELS size) [
+  | inl many ↦ let e : true ≡ false = sym (exactly.1 (many.1, refl)) ∙ free in absurd (cc)
+  | inr less ↦ omega (arith, less.1, is)
+]
+few_added (Some found) full size more free exactly few is = omega (arith, few, is)
+
+-- a table that stays is read
+pub read_none : {S : Type 0} (channel : List ℕ) (before after : Table S) → after ≡ before → ReadsOf channel before after
+read_none channel before after same = record { others = λ other differ. ap (λ t. channel_in t other) same; known = ap (λ t. is_some (channel_in t channel)) same; size = ap (λ t. size_of t) same }
+
+-- a property of every slot
+pub slot_any : {S : Type 0} (found : Option S) (Is : S → Type 0) → ((slot : S) → Is slot) → IfSome found Is
+slot_any None Is by = tt
+slot_any (Some slot) Is by = by slot

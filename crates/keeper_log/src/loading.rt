@@ -1,15 +1,9 @@
-ghost use Rattle.std.specs.Prelude.{◌≡◌, ◌≤◌, ◌⊎◌, List, ℕ, Option, None, Some, IfOk, IfErr, IsErrOf};
+ghost use Rattle.std.specs.Prelude.{◌≡◌, ◌≤◌, ◌⊎◌, List, ℕ, IfOk, IsErrOf};
 ghost use Rattle.pad_edge.specs.Count.{Rose};
-ghost use Rattle.disk_volume.specs.Disk.{reads};
-ghost use Rattle.disk_volume.specs.Moments.{OnlySyncs};
 ghost use Rattle.log_format.specs.declared.damage.Damage.{Damage};
-ghost use Rattle.log_format.specs.declared.form.Form.{Form};
-ghost use Rattle.keeper_channel.specs.Slot.{Keeps, HasDamage, NamesIt};
-ghost use Rattle.keeper_channel.specs.declared.slot.Slot.{Slot};
-ghost use Rattle.keeper_table.specs.Files.{file_one, file_two, OfChannel};
+ghost use Rattle.keeper_log.specs.Inside.Loading.{Loads};
+ghost use Rattle.keeper_table.specs.Files.{file_one, file_two};
 ghost use Rattle.keeper_state.specs.Slot.{IsSlotFor};
-ghost use Rattle.keeper_state.specs.State.{State, Finds, Reaches, StandsFor, LeavesList};
-ghost use Rattle.keeper_table.specs.Table.{joined};
 
 use disk_volume::Volume;
 use gated_log::{Ledger, LoadRefused};
@@ -29,17 +23,8 @@ pub(crate) fn load_channel<O: Ledger, G: Ledger, V: Volume>(
 ) -> Result<Slot<O, G>, KeeperRefused>
     requires apart { (file : List ℕ) → G.owns (file_two channel.now) file → O.owns (file_one channel.now) file → ⊥ }
     ensures made { IfOk result (IsSlotFor O.name O.form_of O.live O.count G.name G.form_of G.live G.count channel.now) }
-    ensures reached { V.tells → (found : Option (Option (Slot O G))) (state : State) → joined found ≡ None → StandsFor O.rests G.rests O.opens_as G.opens_as G.doubt O.holds G.holds channel.now found state (V.disk volume.old)
-        → IfOk result (λ slot. (held : List (List ℕ)) × (suspense : List (List ℕ)) × Reaches (Finds O.opens_as G.opens_as G.doubt O.damage G.damage channel.now (reads (V.disk volume.old))) state held suspense
-        × Keeps (O.opens_as Form.One (file_one channel.now)) (G.opens_as Form.Two (file_two channel.now)) (G.doubt Form.Two (file_two channel.now)) O.holds G.holds (Some slot) held suspense (V.disk volume.new)) }
-    ensures stays { V.tells → (found : Option (Option (Slot O G))) (state : State) → joined found ≡ None → StandsFor O.rests G.rests O.opens_as G.opens_as G.doubt O.holds G.holds channel.now found state (V.disk volume.old)
-        → StandsFor O.rests G.rests O.opens_as G.opens_as G.doubt O.holds G.holds channel.now found state (V.disk volume.new) }
-    ensures leaves { V.tells → (found : Option (Option (Slot O G))) (state : State) → joined found ≡ None → StandsFor O.rests G.rests O.opens_as G.opens_as G.doubt O.holds G.holds channel.now found state (V.disk volume.old)
-        → LeavesList O.opens_as G.opens_as channel.now (Finds O.opens_as G.opens_as G.doubt O.damage G.damage channel.now (reads (V.disk volume.old))) state (V.disk volume.old) (V.disk volume.new) }
-    ensures damaged { V.tells → IfErr result (NamesIt (HasDamage (O.opens_as Form.One (file_one channel.now)) (G.opens_as Form.Two (file_two channel.now))
-        (O.damage Form.One (file_one channel.now)) (G.damage Form.Two (file_two channel.now)) (reads (V.disk volume.old)))) }
+    ensures loads { V.tells → Loads O.rests G.rests O.opens_as G.opens_as G.doubt O.damage G.damage O.holds G.holds O.owns G.owns channel.now result (V.disk volume.old) (V.disk volume.new) }
     ensures full { IsErrOf result KeeperRefused.Full → ⊥ }
-    ensures syncs { V.tells → OnlySyncs (OfChannel O.owns G.owns channel.now) (V.disk volume.old) (V.disk volume.new) }
     ensures follows { V.follows volume.old volume.new }
     ensures store { IsErrOf result KeeperRefused.Store → Rose (V.faults volume.old) (V.faults volume.new) }
     ensures kept { IsErrOf result KeeperRefused.Store ⊎ (V.faults volume.new ≡ V.faults volume.old) }
@@ -70,17 +55,8 @@ fn load_files<O: Ledger, G: Ledger, V: Volume>(
     requires one { one.now ≡ file_one channel.now }
     requires two { two.now ≡ file_two channel.now }
     ensures made { IfOk result (IsSlotFor O.name O.form_of O.live O.count G.name G.form_of G.live G.count channel.now) }
-    ensures reached { V.tells → (found : Option (Option (Slot O G))) (state : State) → joined found ≡ None → StandsFor O.rests G.rests O.opens_as G.opens_as G.doubt O.holds G.holds channel.now found state (V.disk volume.old)
-        → IfOk result (λ slot. (held : List (List ℕ)) × (suspense : List (List ℕ)) × Reaches (Finds O.opens_as G.opens_as G.doubt O.damage G.damage channel.now (reads (V.disk volume.old))) state held suspense
-        × Keeps (O.opens_as Form.One (file_one channel.now)) (G.opens_as Form.Two (file_two channel.now)) (G.doubt Form.Two (file_two channel.now)) O.holds G.holds (Some slot) held suspense (V.disk volume.new)) }
-    ensures stays { V.tells → (found : Option (Option (Slot O G))) (state : State) → joined found ≡ None → StandsFor O.rests G.rests O.opens_as G.opens_as G.doubt O.holds G.holds channel.now found state (V.disk volume.old)
-        → StandsFor O.rests G.rests O.opens_as G.opens_as G.doubt O.holds G.holds channel.now found state (V.disk volume.new) }
-    ensures leaves { V.tells → (found : Option (Option (Slot O G))) (state : State) → joined found ≡ None → StandsFor O.rests G.rests O.opens_as G.opens_as G.doubt O.holds G.holds channel.now found state (V.disk volume.old)
-        → LeavesList O.opens_as G.opens_as channel.now (Finds O.opens_as G.opens_as G.doubt O.damage G.damage channel.now (reads (V.disk volume.old))) state (V.disk volume.old) (V.disk volume.new) }
-    ensures damaged { V.tells → IfErr result (NamesIt (HasDamage (O.opens_as Form.One (file_one channel.now)) (G.opens_as Form.Two (file_two channel.now))
-        (O.damage Form.One (file_one channel.now)) (G.damage Form.Two (file_two channel.now)) (reads (V.disk volume.old)))) }
+    ensures loads { V.tells → Loads O.rests G.rests O.opens_as G.opens_as G.doubt O.damage G.damage O.holds G.holds O.owns G.owns channel.now result (V.disk volume.old) (V.disk volume.new) }
     ensures full { IsErrOf result KeeperRefused.Full → ⊥ }
-    ensures syncs { V.tells → OnlySyncs (OfChannel O.owns G.owns channel.now) (V.disk volume.old) (V.disk volume.new) }
     ensures follows { V.follows volume.old volume.new }
     ensures store { IsErrOf result KeeperRefused.Store → Rose (V.faults volume.old) (V.faults volume.new) }
     ensures kept { IsErrOf result KeeperRefused.Store ⊎ (V.faults volume.new ≡ V.faults volume.old) }

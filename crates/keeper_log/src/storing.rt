@@ -1,9 +1,13 @@
-ghost use Rattle.std.specs.Prelude.{◌≡◌, ◌≤◌, ◌⊎◌, List, ℕ, None, length, IfSome, IsSome, IsOk, IsErrOf};
+ghost use Rattle.std.specs.Prelude.{◌≡◌, ◌↔◌, ◌≤◌, ◌&&◌, ◌⊎◌, List, ℕ, None, false, length, IfSome, IsSome, IsOk, IsErrOf};
 ghost use Rattle.pad_edge.specs.Count.{Rose};
 ghost use Rattle.disk_volume.specs.Moments.{Grew};
 ghost use Rattle.log_format.specs.declared.form.Form.{Form};
 ghost use Rattle.log_format.specs.declared.frames.TheConstants.{MOST_FRAMES};
+ghost use Rattle.log_format.specs.Frames.{size_of};
+ghost use Rattle.keeper_entry.specs.Index.{IsIndex};
+ghost use Rattle.keeper_channel.specs.Chan.{channel_room};
 ghost use Rattle.keeper_channel.specs.Entries.{AreEntries};
+ghost use Rattle.keeper_channel.specs.Logs.{log_room};
 ghost use Rattle.keeper_channel.specs.Slot.{IsSlot, IsStored};
 ghost use Rattle.keeper_table.specs.Files.{file_one, file_two};
 ghost use Rattle.keeper_state.specs.Slot.{IsSlotFor};
@@ -36,6 +40,9 @@ pub(crate) fn store_in_slot<O: Ledger, G: Ledger, V: Volume>(
     ensures stored { V.tells → (held suspense : List (List ℕ)) → IsSlot O.holds G.holds (G.doubt Form.Two (file_two channel.now)) slot held suspense (V.disk volume.old)
         → IsStored (O.opens_as Form.One (file_one channel.now)) (G.opens_as Form.Two (file_two channel.now)) (G.doubt Form.Two (file_two channel.now)) O.holds G.holds
         held suspense payloads.now result.slot result.answer (V.disk volume.old) (V.disk volume.new) }
+    ensures full { (list : List (List ℕ)) → IsIndex slot.index list
+        → IsErrOf result.answer KeeperRefused.Full ↔ ((channel_room list (length payloads.now) (size_of payloads.now) && log_room G.room slot.logs (length payloads.now) (size_of payloads.now)) ≡ false) }
+    ensures nothing { IsErrOf result.answer KeeperRefused.Full → volume.new ≡ volume.old }
     ensures some { IsOk result.answer → IsSome result.slot }
     ensures none { IsErrOf result.answer KeeperRefused.Store → result.slot ≡ None }
     ensures made { IfSome result.slot (IsSlotFor O.name O.form_of O.live O.count G.name G.form_of G.live G.count channel.now) }

@@ -1,5 +1,5 @@
-use Rattle.std.proofs.Common.{◌≡◌, ◌∙◌, ◌<◌, ◌++◌, [], ◌∷◌, arith, List, ℕ, zero, suc, length, take, get_or, map, All, refl, sym, ap, subst}
-use Rattle.std.proofs.lemmas.List.{map_more, take_all}
+use Rattle.std.proofs.Common.{◌∙◌, ◌<◌, ◌++◌, [], ◌∷◌, arith, List, ℕ, zero, suc, length, take, map, All, sym, ap, subst}
+use Rattle.std.proofs.lemmas.List.{map_more}
 use Rattle.std.proofs.lemmas.List.Elements.{All-append}
 use Rattle.keeper_entry.specs.Entry.{IsEntry}
 use Rattle.keeper_channel.specs.Entries.{AreEntries}

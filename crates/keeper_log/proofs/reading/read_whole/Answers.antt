@@ -1,4 +1,4 @@
-use Rattle.std.proofs.Common.{◌≡◌, ◌∙◌, sym, ap, subst}
+use Rattle.std.proofs.Common.{◌∙◌, sym, ap, subst}
 use Rattle.keeper_entry.specs.Entry.{IsEntry}
 use Rattle.keeper_table.specs.Entry.{entry_in}
 use Rattle.keeper_log.proofs.reading.read_whole.Goals as goal

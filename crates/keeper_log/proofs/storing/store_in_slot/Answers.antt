@@ -1,4 +1,4 @@
-use Rattle.std.proofs.Common.{◌≡◌, ℕ, List, IfSome, sym, subst}
+use Rattle.std.proofs.Common.{ℕ, List, IfSome, sym, subst}
 use Rattle.disk_volume.specs.Moments.{Grew}
 use Rattle.log_format.specs.declared.form.Form.TheVariants.{One, Two}
 use Rattle.keeper_channel.specs.Slot.{IsSlot, IsSlotOf, IsStored}

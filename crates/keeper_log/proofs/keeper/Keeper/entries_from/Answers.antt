@@ -1,13 +1,14 @@
 -- Where `first > total` the loop makes no turn, and there are no entries from there on.
-use Rattle.std.proofs.Common.{◌≡◌, ◌∙◌, ◌+◌, ◌<◌, ℕ, List, length, take, drop, inl, inr, refl, sym, ap, subst, arith, length-drop}
+use Rattle.std.proofs.Common.{◌∙◌, ◌+◌, ◌<◌, drop, is_some, inl, inr, refl, sym, ap, subst, arith, length-drop}
 use Rattle.std.proofs.lemmas.List.{take_all}
 use Rattle.std.proofs.lemmas.Result.{err_from_is_err_and}
 use Rattle.disk_volume.specs.Disk.{Disk}
 use Rattle.keeper_state.specs.Entries.{entries_from}
 use Rattle.keeper_log.specs.Keeper.{HasEntry, IsKeeper}
 use Rattle.keeper_state.specs.State.{live, StandsFor}
-use Rattle.keeper_table.specs.Table.{channel_in}
+use Rattle.keeper_table.specs.Table.{channel_in, size_of}
 use Rattle.keeper_log.proofs.Histories.{entries_more, got_behind}
+use Rattle.keeper_log.proofs.Refusals.{refused_again}
 use Rattle.keeper_log.proofs.keeper.Keeper.entries_from.Goals as goal
 
 pub loop-index-init : goal.loop-index-init
@@ -72,8 +73,12 @@ returns-clause-made g c =
     let O = g.O.Ledger in let G = g.G.Ledger in
     subst (λ k. IsKeeper O.name O.form_of O.live O.count G.name G.form_of G.live G.count k.table) (sym c.loop-index.invariant.same) c.requires.made
 
-pub returns-clause-others : goal.returns-clause-others
-returns-clause-others g c = λ other differ. ap (λ k. channel_in k.table other) c.loop-index.invariant.same
+pub returns-clause-table : goal.returns-clause-table
+returns-clause-table g c = record {
+  others = λ other differ. ap (λ k. channel_in k.table other) c.loop-index.invariant.same;
+  known = ap (λ k. is_some (channel_in k.table c.args.channel.now)) c.loop-index.invariant.same;
+  size = ap (λ k. size_of k.table) c.loop-index.invariant.same;
+}
 
 pub returns-in_err-add_entry-clause-stands : goal.returns-in_err-add_entry-clause-stands
 returns-in_err-add_entry-clause-stands g c = let p = err_from_is_err_and c.from_residual.result c.from_residual.ensures.1 in rw (p.1, p.2) (λ told held suspense stands.
@@ -83,8 +88,16 @@ returns-in_err-add_entry-clause-stands g c = let p = err_from_is_err_and c.from_
     (subst (λ (d : Disk). StandsFor O.rests G.rests O.opens_as G.opens_as G.doubt O.holds G.holds c.args.channel.now (channel_in c.args.self.now.table c.args.channel.now) (live held suspense) d) (sym (c.loop-index.invariant.disk told)) stands) in
     c.in_err-add_entry.ensures.left told held suspense here)
 
-pub returns-in_err-add_entry-clause-others : goal.returns-in_err-add_entry-clause-others
-returns-in_err-add_entry-clause-others g c = λ other differ. c.add_entry.ensures.others other differ ∙ ap (λ k. channel_in k.table other) c.loop-index.invariant.same
+pub returns-in_err-add_entry-clause-table : goal.returns-in_err-add_entry-clause-table
+returns-in_err-add_entry-clause-table g c = let reads = c.add_entry.ensures.table in record {
+  others = λ other differ. reads.others other differ ∙ ap (λ k. channel_in k.table other) c.loop-index.invariant.same;
+  known = reads.known ∙ ap (λ k. is_some (channel_in k.table c.args.channel.now)) c.loop-index.invariant.same;
+  size = reads.size ∙ ap (λ k. size_of k.table) c.loop-index.invariant.same;
+}
+
+pub returns-in_err-add_entry-clause-full : goal.returns-in_err-add_entry-clause-full
+returns-in_err-add_entry-clause-full g c = let p = err_from_is_err_and c.from_residual.result c.from_residual.ensures.1 in
+    rw (p.1, p.2) (λ is. c.in_err-add_entry.ensures.full (refused_again _ _ is))
 
 pub returns-in_err-add_entry-clause-disk : goal.returns-in_err-add_entry-clause-disk
 returns-in_err-add_entry-clause-disk g c = λ told. c.add_entry.ensures.disk told ∙ c.loop-index.invariant.disk told

@@ -1,4 +1,4 @@
-use Rattle.std.proofs.Common.{◌≡◌, ◌+◌, ◌≤◌, ℕ, List, length, take, drop}
+use Rattle.std.proofs.Common.{◌≡◌, ◌+◌, ℕ, List, take, drop}
 use Rattle.keeper_state.specs.Entries.{entries_from}
 use Rattle.keeper_state.specs.State.{live, StandsFor}
 use Rattle.keeper_table.specs.Table.{channel_in}

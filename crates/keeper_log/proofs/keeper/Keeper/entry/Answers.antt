@@ -1,4 +1,4 @@
-use Rattle.std.proofs.Common.{◌≡◌, ◌∙◌, ◌<◌, ℕ, List, Option, Some, None, IsTrue, inr, refl, sym, ap, subst}
+use Rattle.std.proofs.Common.{◌≡◌, ◌∙◌, ◌<◌, Some, None, IsTrue, sym, ap, subst, arith}
 use Rattle.disk_volume.specs.Disk.{Disk, IsImage}
 use Rattle.log_format.specs.declared.form.Form.TheVariants.{One, Two}
 use Rattle.keeper_channel.specs.Slot.{IsSlot}
@@ -8,17 +8,14 @@ use Rattle.keeper_table.specs.Files.{file_one, file_two}
 use Rattle.keeper_state.specs.Slot.{IsLogOf, IsSlotFor}
 use Rattle.keeper_state.specs.State.{live}
 use Rattle.keeper_table.specs.Table.{channel_in, joined}
-use Rattle.keeper_log.proofs.Tables.{keeper_on, known}
+use Rattle.keeper_log.proofs.Tables.{keeper_on, known, one_slot}
 use Rattle.keeper_log.proofs.keeper.Keeper.entry.Goals as goal
-
-one_slot : {S : Type 0} (one other : S) → Some one ≡ Some other → one ≡ other
-one_slot one other same = cc
 
 pub read_whole-requires-clause-live : goal.read_whole-requires-clause-live
 read_whole-requires-clause-live g c =
     let O = g.O.Ledger in let G = g.G.Ledger in let channel = c.args.channel.now in
     slot_weaker (IsLogOf O.name O.form_of O.live (file_one channel) One) (λ log. IsTrue (O.live log)) (IsLogOf G.name G.form_of G.live (file_two channel) Two) (λ log. IsTrue (G.live log))
-    O.count G.count c.in-Some.slot.now (λ log is. is.2) (λ log is. is.2) (c.requires.made channel c.in-Some.slot.now (sym c.in-Some.ensures))
+    O.count G.count c.in-Some.slot.now (λ log is. is.2) (λ log is. is.2) (c.requires.made.slots channel c.in-Some.slot.now (sym c.in-Some.ensures))
 
 pub read_whole-requires-clause-index : goal.read_whole-requires-clause-index
 read_whole-requires-clause-index g c =
@@ -46,7 +43,7 @@ pub returns-in-Err-Store-clause-stands : goal.returns-in-Err-Store-clause-stands
 returns-in-Err-Store-clause-stands g c = λ told held suspense stands is.
     let O = g.O.Ledger in let G = g.G.Ledger in let channel = c.args.channel.now in
     let now = c.a_crash_leaves_what_is_kept.ensures (file_one channel) (file_two channel) (Some stands.0) (g.V.Volume.disk c.args.volume.now) held suspense
-    (c.requires.made channel stands.0 (ap joined stands.1)) stands.2 in
+    (c.requires.made.slots channel stands.0 (ap joined stands.1)) stands.2 in
     (c.put.ensures.put, λ image left. now image (subst (λ (d : Disk). IsImage d image) (c.read_whole.ensures.disk told) left))
 
 pub put-requires : goal.put-requires
@@ -54,6 +51,8 @@ put-requires g c = let e : joined (channel_in c.args.self.now.table c.args.chann
 
 pub returns-in-Err-Store-clause-made : goal.returns-in-Err-Store-clause-made
 returns-in-Err-Store-clause-made g c =
-    let O = g.O.Ledger in let G = g.G.Ledger in
-    keeper_on (λ channel slot. IsSlotFor O.name O.form_of O.live O.count G.name G.form_of G.live G.count channel slot) c.args.self.now.table c.put.new.self c.args.channel.now
-    (λ slot is. let e : None ≡ Some slot = sym (ap joined c.put.ensures.put) ∙ is in absurd (cc)) c.put.ensures.others c.requires.made
+    let O = g.O.Ledger in let G = g.G.Ledger in record {
+      slots = keeper_on (λ channel slot. IsSlotFor O.name O.form_of O.live O.count G.name G.form_of G.live G.count channel slot) c.args.self.now.table c.put.new.self c.args.channel.now
+          (λ slot is. let e : None ≡ Some slot = sym (ap joined c.put.ensures.put) ∙ is in absurd (cc)) c.put.ensures.others c.requires.made.slots;
+      few = omega (arith, c.put.ensures.size, c.requires.made.few);
+    }

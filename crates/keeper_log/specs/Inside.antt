@@ -1,0 +1,3 @@
+-- What calls inside the crate do.
+pub mod Loading
+pub mod Taking
