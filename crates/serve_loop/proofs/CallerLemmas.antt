@@ -100,11 +100,11 @@ pub record IsBegun {S : Type 0} (Step : S → ℕ → Event → List Out → S �
   pub given_is : (given ≡ events) ⊎ ((last : PortEvent) × (events ≡ given ++ last ∷ []))
   pub whole_is : whole ≡ gone ++ rest
 
-pub stopped_begun : {S : Type 0} (Step : S → ℕ → Event → List Out → S → Type 0) (Stands : S → Type 0) (Breaks : S → ℕ → Event → Type 0) (can : CanClose Step) (first : S) (events : List PortEvent) (gone : List Sent) (failed : List ℕ)
-    → Stops Step Stands Breaks first events gone failed → IsBegun Step first events gone
-stopped_begun Step Stands Breaks can first events gone failed (between {state = state} moments runs stands) =
+pub stopped_begun : {S : Type 0} (Step : S → ℕ → Event → List Out → S → Type 0) (Stands : S → Type 0) (Breaks : S → ℕ → Event → Type 0) (can : CanClose Step) (first : S) (moments : List ℕ) (events : List PortEvent) (gone : List Sent) (failed : List ℕ)
+    → Stops Step Stands Breaks first moments events gone failed → IsBegun Step first events gone
+stopped_begun Step Stands Breaks can first moments events gone failed (between {state = state} runs stands) =
     record { moments = moments; given = events; whole = gone; failed = failed; next = state; rest = []; runs = runs; given_is = inl refl; whole_is = sym (append-nil gone) }
-stopped_begun Step Stands Breaks can first events gone failed (within {state = state} moments moment before given one sent later fails more runs is part) =
+stopped_begun Step Stands Breaks can first all events gone failed (within {state = state} moments moment before given one sent later fails more runs is part) =
     elim (taken_on Step Stands Breaks can moment state one later more part) [
       | inl none ↦ record {
         moments = moments;

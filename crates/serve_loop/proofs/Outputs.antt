@@ -3,6 +3,10 @@ use Rattle.std.proofs.Common.{◌≡◌, ◌∙◌, ◌⊎◌, inl, inr, ℕ, Bo
 use Rattle.std.proofs.lemmas.List.{append-nil, append_assoc}
 use Rattle.serve_loop.specs.declared.out.Out.{Out}
 use Rattle.serve_loop.specs.declared.out.Out.TheVariants.{Send, HangUp}
+use Rattle.std.specs.Prelude.{Err}
+use Rattle.pad_edge.specs.Port.{failed_after}
+use Rattle.pad_edge.specs.declared.link_refused.LinkRefused.{LinkRefused}
+use Rattle.pad_edge.specs.declared.link_refused.LinkRefused.TheVariants.{Failed}
 use Rattle.pad_edge.specs.declared.sent.Sent.{Sent}
 use Rattle.pad_edge.specs.declared.sent.Sent.TheVariants.{Text, HungUp}
 use Rattle.serve_loop.specs.Connected.{is_among}
@@ -53,61 +57,61 @@ delivers_then before (HangUp connection ∷ outs) more sent later failed others 
     ] done
 
 -- the same of a port
-pub delivered_then : (before mid after : List ℕ) (outs more : List Out) (sent_before sent_mid sent_after : List Sent) (failed_before failed_mid failed_after : List ℕ)
-    → IsDelivered before mid outs sent_before sent_mid failed_before failed_mid → IsDelivered mid after more sent_mid sent_after failed_mid failed_after
-    → IsDelivered before after (outs ++ more) sent_before sent_after failed_before failed_after
-delivered_then before mid after outs more sent_before sent_mid sent_after failed_before failed_mid failed_after one two =
+pub delivered_then : (tells : Type 0) (before mid after : List ℕ) (outs more : List Out) (sent_before sent_mid sent_after : List Sent) (failed_before failed_mid failed_after : List ℕ)
+    → IsDelivered tells before mid outs sent_before sent_mid failed_before failed_mid → IsDelivered tells mid after more sent_mid sent_after failed_mid failed_after
+    → IsDelivered tells before after (outs ++ more) sent_before sent_after failed_before failed_after
+delivered_then tells before mid after outs more sent_before sent_mid sent_after failed_before failed_mid failed_after one two =
     let S : List ℕ → Type 0 = λ w. Delivers w more two.gone two.failed in
     record {
       gone = one.gone ++ two.gone;
       failed = one.failed ++ two.failed;
       delivers = delivers_then before outs more one.gone two.gone one.failed two.failed one.delivers (subst S one.waiting_is two.delivers);
-      gone_is = two.gone_is ∙ ap (λ (l : List Sent). l ++ two.gone) one.gone_is ∙ append_assoc sent_before one.gone two.gone;
-      failed_is = two.failed_is ∙ ap (λ (l : List ℕ). l ++ two.failed) one.failed_is ∙ append_assoc failed_before one.failed two.failed;
+      gone_is = λ told. two.gone_is told ∙ ap (λ (l : List Sent). l ++ two.gone) (one.gone_is told) ∙ append_assoc sent_before one.gone two.gone;
+      failed_is = λ told. two.failed_is told ∙ ap (λ (l : List ℕ). l ++ two.failed) (one.failed_is told) ∙ append_assoc failed_before one.failed two.failed;
       waiting_is = two.waiting_is ∙ ap (λ (l : List ℕ). l ++ two.failed) one.waiting_is ∙ append_assoc before one.failed two.failed;
     }
 
 -- nothing was done
-pub delivered_none : (waiting : List ℕ) (sent : List Sent) (failed : List ℕ) → IsDelivered waiting waiting [] sent sent failed failed
-delivered_none waiting sent failed = record {
+pub delivered_none : (tells : Type 0) (waiting : List ℕ) (sent : List Sent) (failed : List ℕ) → IsDelivered tells waiting waiting [] sent sent failed failed
+delivered_none tells waiting sent failed = record {
   gone = [];
   failed = [];
   delivers = (refl, refl);
-  gone_is = sym (append-nil sent);
-  failed_is = sym (append-nil failed);
+  gone_is = λ told. sym (append-nil sent);
+  failed_is = λ told. sym (append-nil failed);
   waiting_is = sym (append-nil waiting);
 }
 
 -- an output for one that waits is left out
-pub left_out : (waiting : List ℕ) (connection : ℕ) (text : List ℕ) (sent : List Sent) (failed : List ℕ) → is_among waiting connection ≡ true
-    → IsDelivered waiting waiting (Send connection text ∷ []) sent sent failed failed
-left_out waiting connection text sent failed among = record {
+pub left_out : (tells : Type 0) (waiting : List ℕ) (connection : ℕ) (text : List ℕ) (sent : List Sent) (failed : List ℕ) → is_among waiting connection ≡ true
+    → IsDelivered tells waiting waiting (Send connection text ∷ []) sent sent failed failed
+left_out tells waiting connection text sent failed among = record {
   gone = [];
   failed = [];
   delivers = rw among (refl, refl);
-  gone_is = sym (append-nil sent);
-  failed_is = sym (append-nil failed);
+  gone_is = λ told. sym (append-nil sent);
+  failed_is = λ told. sym (append-nil failed);
   waiting_is = sym (append-nil waiting);
 }
 
 -- a text went out
-pub went : (waiting : List ℕ) (connection : ℕ) (text : List ℕ) (before after : List Sent) (failed : List ℕ) → is_among waiting connection ≡ false
-    → after ≡ before ++ Text connection text ∷ []
-    → IsDelivered waiting waiting (Send connection text ∷ []) before after failed failed
-went waiting connection text before after failed among is = record {
+pub went : (tells : Type 0) (waiting : List ℕ) (connection : ℕ) (text : List ℕ) (before after : List Sent) (failed_before failed_after : List ℕ) → is_among waiting connection ≡ false
+    → (tells → after ≡ before ++ Text connection text ∷ []) → (tells → failed_after ≡ failed_before)
+    → IsDelivered tells waiting waiting (Send connection text ∷ []) before after failed_before failed_after
+went tells waiting connection text before after failed_before failed_after among is same = record {
   gone = Text connection text ∷ [];
   failed = [];
   delivers = rw among (inl ([], refl, (refl, refl)));
   gone_is = is;
-  failed_is = sym (append-nil failed);
+  failed_is = λ told. same told ∙ sym (append-nil failed_before);
   waiting_is = sym (append-nil waiting);
 }
 
 -- a send failed
-pub lost : (waiting : List ℕ) (connection : ℕ) (text : List ℕ) (before after : List Sent) (failed_before failed_after : List ℕ) → is_among waiting connection ≡ false
-    → after ≡ before ++ HungUp connection ∷ [] → failed_after ≡ failed_before ++ connection ∷ []
-    → IsDelivered waiting (waiting ++ connection ∷ []) (Send connection text ∷ []) before after failed_before failed_after
-lost waiting connection text before after failed_before failed_after among is fails = record {
+pub lost : (tells : Type 0) (waiting : List ℕ) (connection : ℕ) (text : List ℕ) (before after : List Sent) (failed_before failed_after : List ℕ) → is_among waiting connection ≡ false
+    → (tells → after ≡ before ++ HungUp connection ∷ []) → (tells → failed_after ≡ failed_before ++ connection ∷ [])
+    → IsDelivered tells waiting (waiting ++ connection ∷ []) (Send connection text ∷ []) before after failed_before failed_after
+lost tells waiting connection text before after failed_before failed_after among is fails = record {
   gone = HungUp connection ∷ [];
   failed = connection ∷ [];
   delivers = rw among (inr ([], [], refl, refl, (refl, refl)));
@@ -116,27 +120,31 @@ lost waiting connection text before after failed_before failed_after among is fa
   waiting_is = refl;
 }
 
+-- the connection of a send that failed is told
+pub failed_by : (T : Type 0) (before after : List ℕ) (connection : ℕ) (why : LinkRefused) → why ≡ Failed → after ≡ failed_after {T = T} before connection (Err why) → after ≡ before ++ connection ∷ []
+failed_by T before after connection why is same = same ∙ ap (λ (w : LinkRefused). failed_after {T = T} before connection (Err w)) is
+
 -- a connection was hung up
-pub hung_up : (waiting : List ℕ) (connection : ℕ) (before after : List Sent) (failed : List ℕ) → is_among waiting connection ≡ false
-    → after ≡ before ++ HungUp connection ∷ []
-    → IsDelivered waiting waiting (HangUp connection ∷ []) before after failed failed
-hung_up waiting connection before after failed among is = record {
+pub hung_up : (tells : Type 0) (waiting : List ℕ) (connection : ℕ) (before after : List Sent) (failed_before failed_after : List ℕ) → is_among waiting connection ≡ false
+    → (tells → after ≡ before ++ HungUp connection ∷ []) → (tells → failed_after ≡ failed_before)
+    → IsDelivered tells waiting waiting (HangUp connection ∷ []) before after failed_before failed_after
+hung_up tells waiting connection before after failed_before failed_after among is same = record {
   gone = HungUp connection ∷ [];
   failed = [];
   delivers = rw among ([], refl, (refl, refl));
   gone_is = is;
-  failed_is = sym (append-nil failed);
+  failed_is = λ told. same told ∙ sym (append-nil failed_before);
   waiting_is = sym (append-nil waiting);
 }
 
-pub hang_left_out : (waiting : List ℕ) (connection : ℕ) (sent : List Sent) (failed : List ℕ) → is_among waiting connection ≡ true
-    → IsDelivered waiting waiting (HangUp connection ∷ []) sent sent failed failed
-hang_left_out waiting connection sent failed among = record {
+pub hang_left_out : (tells : Type 0) (waiting : List ℕ) (connection : ℕ) (sent : List Sent) (failed : List ℕ) → is_among waiting connection ≡ true
+    → IsDelivered tells waiting waiting (HangUp connection ∷ []) sent sent failed failed
+hang_left_out tells waiting connection sent failed among = record {
   gone = [];
   failed = [];
   delivers = rw among (refl, refl);
-  gone_is = sym (append-nil sent);
-  failed_is = sym (append-nil failed);
+  gone_is = λ told. sym (append-nil sent);
+  failed_is = λ told. sym (append-nil failed);
   waiting_is = sym (append-nil waiting);
 }
 
@@ -152,16 +160,16 @@ hangs_next [] (HangUp connection) outs hangs = absurd hangs
 hangs_next (one ∷ last) (HangUp connection) outs hangs = hangs.1
 
 -- the first outputs were delivered, and the next one was not
-pub cut_at : (before mid : List ℕ) (outs front rest : List Out) (sent_before sent_mid sent_after : List Sent) (failed_before failed_mid failed_after : List ℕ)
-    → IsDelivered before mid front sent_before sent_mid failed_before failed_mid → outs ≡ front ++ rest → sent_after ≡ sent_mid → failed_after ≡ failed_mid
-    → IsCut before outs sent_before sent_after failed_before failed_after
-cut_at before mid outs front rest sent_before sent_mid sent_after failed_before failed_mid failed_after one is sent_same failed_same = record {
+pub cut_at : (tells : Type 0) (before mid : List ℕ) (outs front rest : List Out) (sent_before sent_mid sent_after : List Sent) (failed_before failed_mid failed_after : List ℕ)
+    → IsDelivered tells before mid front sent_before sent_mid failed_before failed_mid → outs ≡ front ++ rest → (tells → sent_after ≡ sent_mid) → (tells → failed_after ≡ failed_mid)
+    → IsCut tells before outs sent_before sent_after failed_before failed_after
+cut_at tells before mid outs front rest sent_before sent_mid sent_after failed_before failed_mid failed_after one is sent_same failed_same = record {
   front = front;
   rest = rest;
   gone = one.gone;
   failed = one.failed;
   outs_is = is;
   delivers = one.delivers;
-  gone_is = sent_same ∙ one.gone_is;
-  failed_is = failed_same ∙ one.failed_is;
+  gone_is = λ told. sent_same told ∙ one.gone_is told;
+  failed_is = λ told. failed_same told ∙ one.failed_is told;
 }

@@ -1,11 +1,11 @@
 -- The events that a port gave, and its end.
-use Rattle.std.proofs.Common.{◌≡◌, ◌∙◌, ℕ, zero, suc, ◌+◌, ◌<◌, true, false, List, [], ◌∷◌, ◌++◌, length, refl, sym, ap, arith}
+use Rattle.std.proofs.Common.{◌≡◌, ◌∙◌, ℕ, zero, suc, ◌+◌, ◌<◌, ◌≤◌, true, false, List, [], ◌∷◌, ◌++◌, length, refl, sym, ap, arith}
 use Rattle.std.specs.Prelude.{slice_get, Some, Ok}
 use Rattle.std.proofs.lemmas.List.{length-append}
 use Rattle.pad_edge.specs.declared.port_event.PortEvent.{PortEvent}
 use Rattle.pad_edge.specs.declared.port_event.PortEvent.TheVariants as given
 use Rattle.pad_edge.specs.Port.{is_port_end}
-use Rattle.serve_loop.specs.Run.{IsTurns}
+use Rattle.serve_loop.specs.Run.{AreCalls, IsTurns}
 
 pub is_end : (event : PortEvent) → is_port_end (Ok event) ≡ true → event ≡ given.Ended
 is_end (given.Opened connection) is = cc
@@ -42,4 +42,27 @@ turns_ended turns turn events event within count none is = record {
   counted = omega (arith, length-append events (event ∷ []));
   ended = λ place got. let there : place ≡ length events = end_place events event none place got in omega arith;
   whole = λ never. absurd (never (length events) (last_there events event ∙ ap Some (is_end event is)));
+}
+
+-- all of the turns were made, without an `Ended`
+pub turns_all : (turns made : ℕ) (events : List PortEvent) → made ≡ turns → length events ≡ made → ((place : ℕ) → slice_get events place ≡ Some given.Ended → ⊥) → IsTurns turns made events
+turns_all turns made events is count none = record {
+  few = omega arith;
+  counted = sym count;
+  ended = λ place got. absurd (none place got);
+  whole = λ never. is;
+}
+
+-- one more event, whatever it is
+pub calls_one : (turns turn : ℕ) (events : List PortEvent) (event : PortEvent) → turn < turns → length events ≡ turn → ((place : ℕ) → slice_get events place ≡ Some given.Ended → ⊥) → AreCalls turns (events ++ event ∷ [])
+calls_one turns turn events event within count none = record {
+  few = omega (arith, length-append events (event ∷ []));
+  ended = λ place got. let there : place ≡ length events = end_place events event none place got in omega (arith, length-append events (event ∷ []));
+}
+
+-- no event more
+pub calls_none : (turns turn : ℕ) (events : List PortEvent) → turn ≤ turns → length events ≡ turn → ((place : ℕ) → slice_get events place ≡ Some given.Ended → ⊥) → AreCalls turns events
+calls_none turns turn events within count none = record {
+  few = omega arith;
+  ended = λ place got. absurd (none place got);
 }

@@ -7,14 +7,11 @@ use Rattle.serve_loop.specs.declared.out.Out.{Out}
 use Rattle.pad_edge.specs.declared.sent.Sent.{Sent}
 use Rattle.serve_loop.specs.Delivery.{Delivers}
 use Rattle.serve_loop.specs.Inside.Taken.{IsDelivered, IsCut, IsClosed, IsClosedInPart, IsTaken, IsTakenInPart}
-use Rattle.serve_loop.specs.Stop.{ClosesInPart, close_broke, close_cut, close_on, broke, cut, closing, between, within, IsStopped}
+use Rattle.serve_loop.specs.Stop.{ClosesInPart, close_broke, close_cut, close_on, broke, cut, closing}
 use Rattle.std.specs.Prelude.{slice_index_or, Option, Some, None, Result, Ok, Err, OnErr}
 use Rattle.std.specs.List.{remove}
-use Rattle.pad_edge.specs.Clock.{next_moment, moments_after}
-use Rattle.serve_loop.specs.Moments.{coming_after, moments_of}
-use Rattle.std.proofs.lemmas.List.{length-append}
 use Rattle.pad_edge.specs.declared.port_event.PortEvent.{PortEvent}
-use Rattle.serve_loop.specs.Run.{heard, Closes, none_waits, one_closes, Takes, unheard, taken, begins, goes_on, IsServed}
+use Rattle.serve_loop.specs.Run.{heard, Closes, none_waits, one_closes, Takes, unheard, taken}
 
 pub on_err : {T E P : Type 0} (answer : Result T E) → P → OnErr answer P
 on_err (Ok value) holds = tt
@@ -56,50 +53,50 @@ then_in_part Step Stands Breaks moment state waiting gone failed mid left (one_m
     subst R (sym (append_assoc fails others more)) (subst Q (sym (append_assoc first second later)) whole)
 
 -- so far, by what a port tells
-pub record IsClosing {S : Type 0} (Step : S → ℕ → Event → List Out → S → Type 0) (Stands : S → Type 0) (moment : ℕ) (state : S) (waiting left : List ℕ)
+pub record IsClosing {S : Type 0} (tells : Type 0) (Step : S → ℕ → Event → List Out → S → Type 0) (Stands : S → Type 0) (moment : ℕ) (state : S) (waiting left : List ℕ)
     (sent_before sent_now : List Sent) (failed_before failed_now : List ℕ) : Type 0 where
   pub gone : List Sent
   pub failed : List ℕ
   pub mid : S
   pub chain : ClosesTo Step moment state waiting gone failed mid left
-  pub gone_is : sent_now ≡ sent_before ++ gone
-  pub failed_is : failed_now ≡ failed_before ++ failed
+  pub gone_is : tells → sent_now ≡ sent_before ++ gone
+  pub failed_is : tells → failed_now ≡ failed_before ++ failed
   pub stands : Stands mid
 
-pub closing_none : {S : Type 0} (Step : S → ℕ → Event → List Out → S → Type 0) (Stands : S → Type 0) (moment : ℕ) (state : S) (waiting : List ℕ) (sent : List Sent) (failed : List ℕ)
-    → Stands state → IsClosing Step Stands moment state waiting waiting sent sent failed failed
-closing_none Step Stands moment state waiting sent failed stands = record {
+pub closing_none : {S : Type 0} (tells : Type 0) (Step : S → ℕ → Event → List Out → S → Type 0) (Stands : S → Type 0) (moment : ℕ) (state : S) (waiting : List ℕ) (sent : List Sent) (failed : List ℕ)
+    → Stands state → IsClosing tells Step Stands moment state waiting waiting sent sent failed failed
+closing_none tells Step Stands moment state waiting sent failed stands = record {
   gone = [];
   failed = [];
   mid = state;
   chain = none_yet;
-  gone_is = sym (append-nil sent);
-  failed_is = sym (append-nil failed);
+  gone_is = λ told. sym (append-nil sent);
+  failed_is = λ told. sym (append-nil failed);
   stands = stands;
 }
 
-pub closing_one : {S : Type 0} (Step : S → ℕ → Event → List Out → S → Type 0) (Old New : S → Type 0) (moment : ℕ) (state next : S) (waiting left after : List ℕ) (connection : ℕ) (outs : List Out)
+pub closing_one : {S : Type 0} (tells : Type 0) (Step : S → ℕ → Event → List Out → S → Type 0) (Old New : S → Type 0) (moment : ℕ) (state next : S) (waiting left after : List ℕ) (connection : ℕ) (outs : List Out)
     (sent_before sent_now sent_after : List Sent) (failed_before failed_now failed_after : List ℕ)
-    → (so_far : IsClosing Step Old moment state waiting (connection ∷ left) sent_before sent_now failed_before failed_now)
+    → (so_far : IsClosing tells Step Old moment state waiting (connection ∷ left) sent_before sent_now failed_before failed_now)
     → Step so_far.mid moment (event.Closed connection) outs next → New next
-    → IsDelivered left after outs sent_now sent_after failed_now failed_after
-    → IsClosing Step New moment state waiting after sent_before sent_after failed_before failed_after
-closing_one Step Old New moment state next waiting left after connection outs sent_before sent_now sent_after failed_before failed_now failed_after so_far step stands delivered =
+    → IsDelivered tells left after outs sent_now sent_after failed_now failed_after
+    → IsClosing tells Step New moment state waiting after sent_before sent_after failed_before failed_after
+closing_one tells Step Old New moment state next waiting left after connection outs sent_before sent_now sent_after failed_before failed_now failed_after so_far step stands delivered =
     let P : List ℕ → Type 0 = λ w. ClosesTo Step moment state waiting (so_far.gone ++ delivered.gone) (so_far.failed ++ delivered.failed) next w in
     record {
       gone = so_far.gone ++ delivered.gone;
       failed = so_far.failed ++ delivered.failed;
       mid = next;
       chain = subst P (sym delivered.waiting_is) (one_more so_far.gone delivered.gone so_far.failed delivered.failed connection so_far.chain step delivered.delivers);
-      gone_is = delivered.gone_is ∙ ap (λ (l : List Sent). l ++ delivered.gone) so_far.gone_is ∙ append_assoc sent_before so_far.gone delivered.gone;
-      failed_is = delivered.failed_is ∙ ap (λ (l : List ℕ). l ++ delivered.failed) so_far.failed_is ∙ append_assoc failed_before so_far.failed delivered.failed;
+      gone_is = λ told. delivered.gone_is told ∙ ap (λ (l : List Sent). l ++ delivered.gone) (so_far.gone_is told) ∙ append_assoc sent_before so_far.gone delivered.gone;
+      failed_is = λ told. delivered.failed_is told ∙ ap (λ (l : List ℕ). l ++ delivered.failed) (so_far.failed_is told) ∙ append_assoc failed_before so_far.failed delivered.failed;
       stands = stands;
     }
 
-pub closing_all : {S : Type 0} (Step : S → ℕ → Event → List Out → S → Type 0) (Stands : S → Type 0) (moment : ℕ) (state : S) (waiting : List ℕ)
+pub closing_all : {S : Type 0} (tells : Type 0) (Step : S → ℕ → Event → List Out → S → Type 0) (Stands : S → Type 0) (moment : ℕ) (state : S) (waiting : List ℕ)
     (sent_before sent_now : List Sent) (failed_before failed_now : List ℕ)
-    → IsClosing Step Stands moment state waiting [] sent_before sent_now failed_before failed_now → IsClosed Step Stands moment state waiting sent_before sent_now failed_before failed_now
-closing_all Step Stands moment state waiting sent_before sent_now failed_before failed_now so_far =
+    → IsClosing tells Step Stands moment state waiting [] sent_before sent_now failed_before failed_now → IsClosed tells Step Stands moment state waiting sent_before sent_now failed_before failed_now
+closing_all tells Step Stands moment state waiting sent_before sent_now failed_before failed_now so_far =
     let whole = then_closes Step moment state waiting so_far.gone so_far.failed so_far.mid [] so_far.chain [] [] so_far.mid none_waits in
     let Q : List Sent → Type 0 = λ s. Closes Step moment state waiting s (so_far.failed ++ []) so_far.mid in
     let R : List ℕ → Type 0 = λ f. Closes Step moment state waiting so_far.gone f so_far.mid in
@@ -114,37 +111,37 @@ closing_all Step Stands moment state waiting sent_before sent_now failed_before 
     }
 
 -- a closing wanted memory
-pub closing_broke : {S : Type 0} (Step : S → ℕ → Event → List Out → S → Type 0) (Old New : S → Type 0) (Breaks : S → ℕ → Event → Type 0) (moment : ℕ) (state : S) (waiting left : List ℕ) (connection : ℕ)
+pub closing_broke : {S : Type 0} (tells : Type 0) (Step : S → ℕ → Event → List Out → S → Type 0) (Old New : S → Type 0) (Breaks : S → ℕ → Event → Type 0) (moment : ℕ) (state : S) (waiting left : List ℕ) (connection : ℕ)
     (sent_before sent_now : List Sent) (failed_before failed_now : List ℕ)
-    → (so_far : IsClosing Step Old moment state waiting (connection ∷ left) sent_before sent_now failed_before failed_now)
+    → (so_far : IsClosing tells Step Old moment state waiting (connection ∷ left) sent_before sent_now failed_before failed_now)
     → Breaks so_far.mid moment (event.Closed connection)
-    → IsClosedInPart Step New Breaks moment state waiting sent_before sent_now failed_before failed_now
-closing_broke Step Old New Breaks moment state waiting left connection sent_before sent_now failed_before failed_now so_far breaks =
+    → IsClosedInPart tells Step New Breaks moment state waiting sent_before sent_now failed_before failed_now
+closing_broke tells Step Old New Breaks moment state waiting left connection sent_before sent_now failed_before failed_now so_far breaks =
     let part = then_in_part Step New Breaks moment state waiting so_far.gone so_far.failed so_far.mid (connection ∷ left) so_far.chain [] [] (close_broke breaks) in
     record {
       gone = so_far.gone ++ [];
       failed = so_far.failed ++ [];
       closes = part;
-      gone_is = so_far.gone_is ∙ ap (λ (l : List Sent). sent_before ++ l) (sym (append-nil so_far.gone));
-      failed_is = so_far.failed_is ∙ ap (λ (l : List ℕ). failed_before ++ l) (sym (append-nil so_far.failed));
+      gone_is = λ told. so_far.gone_is told ∙ ap (λ (l : List Sent). sent_before ++ l) (sym (append-nil so_far.gone));
+      failed_is = λ told. so_far.failed_is told ∙ ap (λ (l : List ℕ). failed_before ++ l) (sym (append-nil so_far.failed));
     }
 
 -- the outputs of a closing were delivered in part
-pub closing_cut : {S : Type 0} (Step : S → ℕ → Event → List Out → S → Type 0) (Old New : S → Type 0) (Breaks : S → ℕ → Event → Type 0) (moment : ℕ) (state next : S) (waiting left : List ℕ) (connection : ℕ) (outs : List Out)
+pub closing_cut : {S : Type 0} (tells : Type 0) (Step : S → ℕ → Event → List Out → S → Type 0) (Old New : S → Type 0) (Breaks : S → ℕ → Event → Type 0) (moment : ℕ) (state next : S) (waiting left : List ℕ) (connection : ℕ) (outs : List Out)
     (sent_before sent_now sent_after : List Sent) (failed_before failed_now failed_after : List ℕ)
-    → (so_far : IsClosing Step Old moment state waiting (connection ∷ left) sent_before sent_now failed_before failed_now)
+    → (so_far : IsClosing tells Step Old moment state waiting (connection ∷ left) sent_before sent_now failed_before failed_now)
     → Step so_far.mid moment (event.Closed connection) outs next → New next
-    → IsCut left outs sent_now sent_after failed_now failed_after
-    → IsClosedInPart Step New Breaks moment state waiting sent_before sent_after failed_before failed_after
-closing_cut Step Old New Breaks moment state next waiting left connection outs sent_before sent_now sent_after failed_before failed_now failed_after so_far step stands part =
+    → IsCut tells left outs sent_now sent_after failed_now failed_after
+    → IsClosedInPart tells Step New Breaks moment state waiting sent_before sent_after failed_before failed_after
+closing_cut tells Step Old New Breaks moment state next waiting left connection outs sent_before sent_now sent_after failed_before failed_now failed_after so_far step stands part =
     let P : List Out → Type 0 = λ o. Step so_far.mid moment (event.Closed connection) o next in
     let last = close_cut part.front part.rest (subst P part.outs_is step) part.delivers stands in
     record {
       gone = so_far.gone ++ part.gone;
       failed = so_far.failed ++ part.failed;
       closes = then_in_part Step New Breaks moment state waiting so_far.gone so_far.failed so_far.mid (connection ∷ left) so_far.chain part.gone part.failed last;
-      gone_is = part.gone_is ∙ ap (λ (l : List Sent). l ++ part.gone) so_far.gone_is ∙ append_assoc sent_before so_far.gone part.gone;
-      failed_is = part.failed_is ∙ ap (λ (l : List ℕ). l ++ part.failed) so_far.failed_is ∙ append_assoc failed_before so_far.failed part.failed;
+      gone_is = λ told. part.gone_is told ∙ ap (λ (l : List Sent). l ++ part.gone) (so_far.gone_is told) ∙ append_assoc sent_before so_far.gone part.gone;
+      failed_is = λ told. part.failed_is told ∙ ap (λ (l : List ℕ). l ++ part.failed) (so_far.failed_is told) ∙ append_assoc failed_before so_far.failed part.failed;
     }
 
 pub first_removed : (items rest : List ℕ) (connection : ℕ) → 1 ≤ length items → connection ≡ slice_index_or items 0 connection → rest ≡ remove items 0 → items ≡ connection ∷ rest
@@ -152,12 +149,12 @@ first_removed [] rest connection long is rest_is = absurd (omega arith)
 first_removed (item ∷ items) rest connection long is rest_is = ap (λ (c : ℕ). c ∷ items) (sym is) ∙ ap (λ (l : List ℕ). connection ∷ l) (sym rest_is)
 
 -- an event was taken whole
-pub taken_whole : {S : Type 0} (Step : S → ℕ → Event → List Out → S → Type 0) (Stands : S → Type 0) (moment : ℕ) (state mid : S) (given : PortEvent) (event : Event) (outs : List Out) (waiting : List ℕ)
+pub taken_whole : {S : Type 0} (tells : Type 0) (Step : S → ℕ → Event → List Out → S → Type 0) (Stands : S → Type 0) (moment : ℕ) (state mid : S) (given : PortEvent) (event : Event) (outs : List Out) (waiting : List ℕ)
     (sent_before sent_mid sent_after : List Sent) (failed_before failed_mid failed_after : List ℕ)
-    → heard given ≡ Some event → Step state moment event outs mid → IsDelivered [] waiting outs sent_before sent_mid failed_before failed_mid
-    → IsClosed Step Stands moment mid waiting sent_mid sent_after failed_mid failed_after
-    → IsTaken Step Stands moment state given sent_before sent_after failed_before failed_after
-taken_whole Step Stands moment state mid given event outs waiting sent_before sent_mid sent_after failed_before failed_mid failed_after is step delivered closed =
+    → heard given ≡ Some event → Step state moment event outs mid → IsDelivered tells [] waiting outs sent_before sent_mid failed_before failed_mid
+    → IsClosed tells Step Stands moment mid waiting sent_mid sent_after failed_mid failed_after
+    → IsTaken tells Step Stands moment state given sent_before sent_after failed_before failed_after
+taken_whole tells Step Stands moment state mid given event outs waiting sent_before sent_mid sent_after failed_before failed_mid failed_after is step delivered closed =
     let P : List ℕ → Type 0 = λ w. Closes Step moment mid w closed.gone closed.failed closed.next in
     let Q : Option Event → Type 0 = λ e. Takes Step moment state e (delivered.gone ++ closed.gone) (delivered.failed ++ closed.failed) closed.next in
     record {
@@ -165,92 +162,39 @@ taken_whole Step Stands moment state mid given event outs waiting sent_before se
       failed = delivered.failed ++ closed.failed;
       next = closed.next;
       takes = subst Q (sym is) (taken delivered.gone closed.gone delivered.failed closed.failed step delivered.delivers (subst P delivered.waiting_is closed.closes));
-      gone_is = closed.gone_is ∙ ap (λ (l : List Sent). l ++ closed.gone) delivered.gone_is ∙ append_assoc sent_before delivered.gone closed.gone;
-      failed_is = closed.failed_is ∙ ap (λ (l : List ℕ). l ++ closed.failed) delivered.failed_is ∙ append_assoc failed_before delivered.failed closed.failed;
+      gone_is = λ told. closed.gone_is told ∙ ap (λ (l : List Sent). l ++ closed.gone) (delivered.gone_is told) ∙ append_assoc sent_before delivered.gone closed.gone;
+      failed_is = λ told. closed.failed_is told ∙ ap (λ (l : List ℕ). l ++ closed.failed) (delivered.failed_is told) ∙ append_assoc failed_before delivered.failed closed.failed;
       stands = closed.stands;
     }
 
-pub taken_none : {S : Type 0} (Step : S → ℕ → Event → List Out → S → Type 0) (Stands : S → Type 0) (moment : ℕ) (state : S) (given : PortEvent) (sent : List Sent) (failed : List ℕ)
-    → heard given ≡ None → Stands state → IsTaken Step Stands moment state given sent sent failed failed
-taken_none Step Stands moment state given sent failed is stands =
+pub taken_none : {S : Type 0} (tells : Type 0) (Step : S → ℕ → Event → List Out → S → Type 0) (Stands : S → Type 0) (moment : ℕ) (state : S) (given : PortEvent) (sent : List Sent) (failed : List ℕ)
+    → heard given ≡ None → Stands state → IsTaken tells Step Stands moment state given sent sent failed failed
+taken_none tells Step Stands moment state given sent failed is stands =
     let Q : Option Event → Type 0 = λ e. Takes Step moment state e [] [] state in
-    record { gone = []; failed = []; next = state; takes = subst Q (sym is) unheard; gone_is = sym (append-nil sent); failed_is = sym (append-nil failed); stands = stands }
-
-pub moments_more : (calls : ℕ) (coming : List ℕ) → moments_of (calls + 1) coming ≡ moments_of calls coming ++ next_moment (coming_after calls coming) ∷ []
-moments_more calls coming = rw add-one (steps calls coming)
-  where
-    steps : (calls : ℕ) (coming : List ℕ) → moments_of (suc calls) coming ≡ moments_of calls coming ++ next_moment (coming_after calls coming) ∷ []
-    steps zero coming = refl
-    steps (suc calls) coming = ap (λ (l : List ℕ). next_moment coming ∷ l) (steps calls (moments_after coming))
-
-pub served_none : {S : Type 0} (Step : S → ℕ → Event → List Out → S → Type 0) (Stands : S → Type 0) (first : S) (clock_tells : Type 0) (coming : List ℕ) (events : List PortEvent) (sent : List Sent) (failed : List ℕ)
-    → Stands first → IsServed Step Stands first 0 clock_tells coming events events sent sent failed failed
-served_none Step Stands first clock_tells coming events sent failed stands = record {
-  clocked = λ told. refl;
-  moments = [];
-  events = [];
-  gone = [];
-  failed = [];
-  next = first;
-  runs = begins;
-  made_is = refl;
-  events_is = sym (append-nil events);
-  gone_is = sym (append-nil sent);
-  failed_is = sym (append-nil failed);
-  stands = stands;
-}
-
-pub served_one : {S : Type 0} (Step : S → ℕ → Event → List Out → S → Type 0) (Old New : S → Type 0) (first : S) (made moment : ℕ) (clock_tells : Type 0) (coming : List ℕ) (given : PortEvent)
-    (events_before events_mid events_after : List PortEvent) (sent_before sent_mid sent_next sent_after : List Sent) (failed_before failed_mid failed_next failed_after : List ℕ)
-    → (so_far : IsServed Step Old first made clock_tells coming events_before events_mid sent_before sent_mid failed_before failed_mid)
-    → events_after ≡ events_mid ++ given ∷ [] → sent_next ≡ sent_mid → failed_next ≡ failed_mid
-    → IsTaken Step New moment so_far.next given sent_next sent_after failed_next failed_after
-    → (clock_tells → moment ≡ next_moment (coming_after made coming))
-    → IsServed Step New first (made + 1) clock_tells coming events_before events_after sent_before sent_after failed_before failed_after
-served_one Step Old New first made moment clock_tells coming given events_before events_mid events_after sent_before sent_mid sent_next sent_after failed_before failed_mid failed_next failed_after so_far events_is sent_same failed_same one at = record {
-  clocked = λ told. ap (λ (l : List ℕ). l ++ moment ∷ []) (so_far.clocked told) ∙ ap (λ (m : ℕ). moments_of made coming ++ m ∷ []) (at told) ∙ sym (moments_more made coming);
-  moments = so_far.moments ++ moment ∷ [];
-  events = so_far.events ++ given ∷ [];
-  gone = so_far.gone ++ one.gone;
-  failed = so_far.failed ++ one.failed;
-  next = one.next;
-  runs = goes_on so_far.moments so_far.events so_far.gone one.gone so_far.failed one.failed moment given so_far.runs one.takes;
-  made_is = omega (arith, so_far.made_is, length-append so_far.events (given ∷ []));
-  events_is = events_is ∙ ap (λ (l : List PortEvent). l ++ given ∷ []) so_far.events_is ∙ append_assoc events_before so_far.events (given ∷ []);
-  gone_is = one.gone_is ∙ ap (λ (l : List Sent). l ++ one.gone) (sent_same ∙ so_far.gone_is) ∙ append_assoc sent_before so_far.gone one.gone;
-  failed_is = one.failed_is ∙ ap (λ (l : List ℕ). l ++ one.failed) (failed_same ∙ so_far.failed_is) ∙ append_assoc failed_before so_far.failed one.failed;
-  stands = one.stands;
-}
-
-pub coming_more : (calls : ℕ) (coming : List ℕ) → coming_after (calls + 1) coming ≡ moments_after (coming_after calls coming)
-coming_more calls coming = rw add-one (steps calls coming)
-  where
-    steps : (calls : ℕ) (coming : List ℕ) → coming_after (suc calls) coming ≡ moments_after (coming_after calls coming)
-    steps zero coming = refl
-    steps (suc calls) coming = steps calls (moments_after coming)
+    record { gone = []; failed = []; next = state; takes = subst Q (sym is) unheard; gone_is = λ told. sym (append-nil sent); failed_is = λ told. sym (append-nil failed); stands = stands }
 
 -- the step of an event wanted memory
-pub taken_broke : {S : Type 0} (Step : S → ℕ → Event → List Out → S → Type 0) (New : S → Type 0) (Breaks : S → ℕ → Event → Type 0) (moment : ℕ) (state : S) (given : PortEvent) (event : Event) (sent : List Sent) (failed : List ℕ)
-    → heard given ≡ Some event → Breaks state moment event → IsTakenInPart Step New Breaks moment state given sent sent failed failed
-taken_broke Step New Breaks moment state given event sent failed is breaks =
-    record { gone = []; failed = []; event = event; event_is = is; takes = broke breaks; gone_is = sym (append-nil sent); failed_is = sym (append-nil failed) }
+pub taken_broke : {S : Type 0} (tells : Type 0) (Step : S → ℕ → Event → List Out → S → Type 0) (New : S → Type 0) (Breaks : S → ℕ → Event → Type 0) (moment : ℕ) (state : S) (given : PortEvent) (event : Event) (sent : List Sent) (failed : List ℕ)
+    → heard given ≡ Some event → Breaks state moment event → IsTakenInPart tells Step New Breaks moment state given sent sent failed failed
+taken_broke tells Step New Breaks moment state given event sent failed is breaks =
+    record { gone = []; failed = []; event = event; event_is = is; takes = broke breaks; gone_is = λ told. sym (append-nil sent); failed_is = λ told. sym (append-nil failed) }
 
 -- its outputs were delivered in part
-pub taken_cut : {S : Type 0} (Step : S → ℕ → Event → List Out → S → Type 0) (New : S → Type 0) (Breaks : S → ℕ → Event → Type 0) (moment : ℕ) (state mid : S) (given : PortEvent) (event : Event) (outs : List Out)
+pub taken_cut : {S : Type 0} (tells : Type 0) (Step : S → ℕ → Event → List Out → S → Type 0) (New : S → Type 0) (Breaks : S → ℕ → Event → Type 0) (moment : ℕ) (state mid : S) (given : PortEvent) (event : Event) (outs : List Out)
     (sent_before sent_after : List Sent) (failed_before failed_after : List ℕ)
-    → heard given ≡ Some event → Step state moment event outs mid → New mid → IsCut [] outs sent_before sent_after failed_before failed_after
-    → IsTakenInPart Step New Breaks moment state given sent_before sent_after failed_before failed_after
-taken_cut Step New Breaks moment state mid given event outs sent_before sent_after failed_before failed_after is step stands part =
+    → heard given ≡ Some event → Step state moment event outs mid → New mid → IsCut tells [] outs sent_before sent_after failed_before failed_after
+    → IsTakenInPart tells Step New Breaks moment state given sent_before sent_after failed_before failed_after
+taken_cut tells Step New Breaks moment state mid given event outs sent_before sent_after failed_before failed_after is step stands part =
     let P : List Out → Type 0 = λ o. Step state moment event o mid in
     record { gone = part.gone; failed = part.failed; event = event; event_is = is; takes = cut part.front part.rest (subst P part.outs_is step) part.delivers stands; gone_is = part.gone_is; failed_is = part.failed_is }
 
 -- the closings after it stopped
-pub taken_closing : {S : Type 0} (Step : S → ℕ → Event → List Out → S → Type 0) (New : S → Type 0) (Breaks : S → ℕ → Event → Type 0) (moment : ℕ) (state mid : S) (given : PortEvent) (event : Event) (outs : List Out) (waiting : List ℕ)
+pub taken_closing : {S : Type 0} (tells : Type 0) (Step : S → ℕ → Event → List Out → S → Type 0) (New : S → Type 0) (Breaks : S → ℕ → Event → Type 0) (moment : ℕ) (state mid : S) (given : PortEvent) (event : Event) (outs : List Out) (waiting : List ℕ)
     (sent_before sent_mid sent_after : List Sent) (failed_before failed_mid failed_after : List ℕ)
-    → heard given ≡ Some event → Step state moment event outs mid → IsDelivered [] waiting outs sent_before sent_mid failed_before failed_mid
-    → IsClosedInPart Step New Breaks moment mid waiting sent_mid sent_after failed_mid failed_after
-    → IsTakenInPart Step New Breaks moment state given sent_before sent_after failed_before failed_after
-taken_closing Step New Breaks moment state mid given event outs waiting sent_before sent_mid sent_after failed_before failed_mid failed_after is step delivered closed =
+    → heard given ≡ Some event → Step state moment event outs mid → IsDelivered tells [] waiting outs sent_before sent_mid failed_before failed_mid
+    → IsClosedInPart tells Step New Breaks moment mid waiting sent_mid sent_after failed_mid failed_after
+    → IsTakenInPart tells Step New Breaks moment state given sent_before sent_after failed_before failed_after
+taken_closing tells Step New Breaks moment state mid given event outs waiting sent_before sent_mid sent_after failed_before failed_mid failed_after is step delivered closed =
     let P : List ℕ → Type 0 = λ w. ClosesInPart Step New Breaks moment mid w closed.gone closed.failed in
     record {
       gone = delivered.gone ++ closed.gone;
@@ -258,39 +202,6 @@ taken_closing Step New Breaks moment state mid given event outs waiting sent_bef
       event = event;
       event_is = is;
       takes = closing delivered.gone closed.gone delivered.failed closed.failed step delivered.delivers (subst P delivered.waiting_is closed.closes);
-      gone_is = closed.gone_is ∙ ap (λ (l : List Sent). l ++ closed.gone) delivered.gone_is ∙ append_assoc sent_before delivered.gone closed.gone;
-      failed_is = closed.failed_is ∙ ap (λ (l : List ℕ). l ++ closed.failed) delivered.failed_is ∙ append_assoc failed_before delivered.failed closed.failed;
+      gone_is = λ told. closed.gone_is told ∙ ap (λ (l : List Sent). l ++ closed.gone) (delivered.gone_is told) ∙ append_assoc sent_before delivered.gone closed.gone;
+      failed_is = λ told. closed.failed_is told ∙ ap (λ (l : List ℕ). l ++ closed.failed) (delivered.failed_is told) ∙ append_assoc failed_before delivered.failed closed.failed;
     }
-
--- a run stopped between two events
-pub stopped_between : {S : Type 0} (Step : S → ℕ → Event → List Out → S → Type 0) (Stands : S → Type 0) (Breaks : S → ℕ → Event → Type 0) (first : S) (made : ℕ) (clock_tells : Type 0) (coming : List ℕ)
-    (events_before events_now events_after : List PortEvent) (sent_before sent_now sent_after : List Sent) (failed_before failed_now failed_after : List ℕ)
-    → IsServed Step Stands first made clock_tells coming events_before events_now sent_before sent_now failed_before failed_now
-    → events_after ≡ events_now → sent_after ≡ sent_now → failed_after ≡ failed_now
-    → IsStopped Step Stands Breaks first events_before events_after sent_before sent_after failed_before failed_after
-stopped_between Step Stands Breaks first made clock_tells coming events_before events_now events_after sent_before sent_now sent_after failed_before failed_now failed_after so_far events_same sent_same failed_same = record {
-  events = so_far.events;
-  gone = so_far.gone;
-  failed = so_far.failed;
-  stops = between so_far.moments so_far.runs so_far.stands;
-  events_is = events_same ∙ so_far.events_is;
-  gone_is = sent_same ∙ so_far.gone_is;
-  failed_is = failed_same ∙ so_far.failed_is;
-}
-
--- a run stopped within an event
-pub stopped_within : {S : Type 0} (Step : S → ℕ → Event → List Out → S → Type 0) (Old New : S → Type 0) (Breaks : S → ℕ → Event → Type 0) (first : S) (made moment : ℕ) (clock_tells : Type 0) (coming : List ℕ) (given : PortEvent)
-    (events_before events_mid events_after : List PortEvent) (sent_before sent_mid sent_next sent_after : List Sent) (failed_before failed_mid failed_next failed_after : List ℕ)
-    → (so_far : IsServed Step Old first made clock_tells coming events_before events_mid sent_before sent_mid failed_before failed_mid)
-    → events_after ≡ events_mid ++ given ∷ [] → sent_next ≡ sent_mid → failed_next ≡ failed_mid
-    → IsTakenInPart Step New Breaks moment so_far.next given sent_next sent_after failed_next failed_after
-    → IsStopped Step New Breaks first events_before events_after sent_before sent_after failed_before failed_after
-stopped_within Step Old New Breaks first made moment clock_tells coming given events_before events_mid events_after sent_before sent_mid sent_next sent_after failed_before failed_mid failed_next failed_after so_far events_is sent_same failed_same one = record {
-  events = so_far.events ++ given ∷ [];
-  gone = so_far.gone ++ one.gone;
-  failed = so_far.failed ++ one.failed;
-  stops = within so_far.moments moment so_far.events given one.event so_far.gone one.gone so_far.failed one.failed so_far.runs one.event_is one.takes;
-  events_is = events_is ∙ ap (λ (l : List PortEvent). l ++ given ∷ []) so_far.events_is ∙ append_assoc events_before so_far.events (given ∷ []);
-  gone_is = one.gone_is ∙ ap (λ (l : List Sent). l ++ one.gone) (sent_same ∙ so_far.gone_is) ∙ append_assoc sent_before so_far.gone one.gone;
-  failed_is = one.failed_is ∙ ap (λ (l : List ℕ). l ++ one.failed) (failed_same ∙ so_far.failed_is) ∙ append_assoc failed_before so_far.failed one.failed;
-}

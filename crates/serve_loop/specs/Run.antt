@@ -51,9 +51,14 @@ pub record IsTurns (turns made : ℕ) (events : List PortEvent) : Type 0 where
   pub ended : (place : ℕ) → slice_get events place ≡ Some given.Ended → suc place ≡ made
   pub whole : ((place : ℕ) → slice_get events place ≡ Some given.Ended → ⊥) → made ≡ turns
 
--- A port was served: so many events were given, what went out is what a run over them sends, the moments are the clock's where it tells, and
--- the machine is in the last state of the run.
-pub record IsServed {S : Type 0} (Step : S → ℕ → Event → List Out → S → Type 0) (Stands : S → Type 0) (first : S) (made : ℕ) (clock_tells : Type 0) (coming : List ℕ)
+-- What holds of these calls wherever a run stopped: there are so many at most, and an `Ended` is at most the last.
+pub record AreCalls (turns : ℕ) (events : List PortEvent) : Type 0 where
+  pub few : length events ≤ turns
+  pub ended : (place : ℕ) → slice_get events place ≡ Some given.Ended → suc place ≡ length events
+
+-- A port was served: there is a run of the machine over so many events, and the machine is in its last state. Where the port tells, these events
+-- were given and what went out is what the run sends; where the clock tells, the moments are the clock's.
+pub record IsServed {S : Type 0} (Step : S → ℕ → Event → List Out → S → Type 0) (Stands : S → Type 0) (first : S) (turns made : ℕ) (port_tells clock_tells : Type 0) (coming : List ℕ)
     (events_before events_now : List PortEvent) (gone_before gone_now : List Sent) (failed_before failed_now : List ℕ) : Type 0 where
   pub moments : List ℕ
   pub events : List PortEvent
@@ -61,9 +66,9 @@ pub record IsServed {S : Type 0} (Step : S → ℕ → Event → List Out → S 
   pub failed : List ℕ
   pub next : S
   pub runs : Runs Step first moments events gone failed next
-  pub made_is : made ≡ length events
+  pub turned : IsTurns turns made events
   pub clocked : clock_tells → moments ≡ moments_of made coming
-  pub events_is : events_now ≡ events_before ++ events
-  pub gone_is : gone_now ≡ gone_before ++ gone
-  pub failed_is : failed_now ≡ failed_before ++ failed
+  pub events_is : port_tells → events_now ≡ events_before ++ events
+  pub gone_is : port_tells → gone_now ≡ gone_before ++ gone
+  pub failed_is : port_tells → failed_now ≡ failed_before ++ failed
   pub stands : Stands next

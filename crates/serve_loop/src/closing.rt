@@ -18,8 +18,8 @@ pub(crate) fn close_waiting<P: Port, W, M: Machine<W>>(
 ) -> Result<(), LinkRefused>
     requires { M.ready machine.old world.old }
     ensures ready { OnOk result (M.ready machine.new world.new) }
-    ensures closed { P.tells → M.tells → (state : M.State) → M.stands machine.old world.old state → OnOk result (IsClosed M.Step (M.stands machine.new world.new) moment state waiting.items (P.sent port.old) (P.sent port.new) (P.failed port.old) (P.failed port.new)) }
-    ensures part { P.tells → M.tells → (state : M.State) → M.stands machine.old world.old state → OnErr result (IsClosedInPart M.Step (M.stands machine.new world.new) (λ state moment event. M.breaks state moment event world.new) moment state waiting.items (P.sent port.old) (P.sent port.new) (P.failed port.old) (P.failed port.new)) }
+    ensures closed { M.tells → (state : M.State) → M.stands machine.old world.old state → OnOk result (IsClosed P.tells M.Step (M.stands machine.new world.new) moment state waiting.items (P.sent port.old) (P.sent port.new) (P.failed port.old) (P.failed port.new)) }
+    ensures part { M.tells → (state : M.State) → M.stands machine.old world.old state → OnErr result (IsClosedInPart P.tells M.Step (M.stands machine.new world.new) (λ state moment event. M.breaks state moment event world.new) moment state waiting.items (P.sent port.old) (P.sent port.new) (P.failed port.old) (P.failed port.new)) }
     ensures events { P.tells → P.events port.new ≡ P.events port.old }
     ensures counts { (P.faults port.new ≡ P.faults port.old) × (P.ends port.new ≡ P.ends port.old) }
     ensures leaves { M.leaves world.old world.new }

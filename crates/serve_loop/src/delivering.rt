@@ -12,7 +12,7 @@ use pad_edge::{LinkRefused, Port};
 /// Carries out one output. A connection whose send fails is hung up, and waits for its closing from then on.
 fn deliver_one<P: Port>(port: &mut P, out: &Out, waiting: &mut Vec<u64>) -> Result<(), LinkRefused>
     requires { MayDo out.now waiting.old.items (P.spare port.old) }
-    ensures delivered { P.tells → OnOk result (IsDelivered waiting.old.items waiting.new.items (out.now ∷ []) (P.sent port.old) (P.sent port.new) (P.failed port.old) (P.failed port.new)) }
+    ensures delivered { OnOk result (IsDelivered P.tells waiting.old.items waiting.new.items (out.now ∷ []) (P.sent port.old) (P.sent port.new) (P.failed port.old) (P.failed port.new)) }
     ensures same { P.tells → OnErr result ((P.sent port.new ≡ P.sent port.old) × (P.failed port.new ≡ P.failed port.old)) }
     ensures events { P.tells → P.events port.new ≡ P.events port.old }
     ensures counts { (P.faults port.new ≡ P.faults port.old) × (P.ends port.new ≡ P.ends port.old) }
@@ -44,7 +44,7 @@ fn send_one<P: Port>(
     waiting: &mut Vec<u64>,
 ) -> Result<(), LinkRefused>
     requires { is_among waiting.old.items connection ≡ false }
-    ensures delivered { P.tells → OnOk result (IsDelivered waiting.old.items waiting.new.items (Send connection text.now ∷ []) (P.sent port.old) (P.sent port.new) (P.failed port.old) (P.failed port.new)) }
+    ensures delivered { OnOk result (IsDelivered P.tells waiting.old.items waiting.new.items (Send connection text.now ∷ []) (P.sent port.old) (P.sent port.new) (P.failed port.old) (P.failed port.new)) }
     ensures same { P.tells → OnErr result ((P.sent port.new ≡ P.sent port.old) × (P.failed port.new ≡ P.failed port.old)) }
     ensures events { P.tells → P.events port.new ≡ P.events port.old }
     ensures counts { (P.faults port.new ≡ P.faults port.old) × (P.ends port.new ≡ P.ends port.old) }
@@ -73,8 +73,8 @@ pub(crate) fn deliver<P: Port>(
     waiting: &mut Vec<u64>,
 ) -> Result<(), LinkRefused>
     requires { HangsBehind outs.now }
-    ensures delivered { P.tells → OnOk result (IsDelivered waiting.old.items waiting.new.items outs.now (P.sent port.old) (P.sent port.new) (P.failed port.old) (P.failed port.new)) }
-    ensures cut { P.tells → OnErr result (IsCut waiting.old.items outs.now (P.sent port.old) (P.sent port.new) (P.failed port.old) (P.failed port.new)) }
+    ensures delivered { OnOk result (IsDelivered P.tells waiting.old.items waiting.new.items outs.now (P.sent port.old) (P.sent port.new) (P.failed port.old) (P.failed port.new)) }
+    ensures cut { OnErr result (IsCut P.tells waiting.old.items outs.now (P.sent port.old) (P.sent port.new) (P.failed port.old) (P.failed port.new)) }
     ensures events { P.tells → P.events port.new ≡ P.events port.old }
     ensures counts { (P.faults port.new ≡ P.faults port.old) × (P.ends port.new ≡ P.ends port.old) }
     ensures load { OnOk result (KeepsLoad outs.now waiting.old.items waiting.new.items) }

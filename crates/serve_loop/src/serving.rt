@@ -3,7 +3,7 @@ ghost use Rattle.pad_edge.specs.Count.{CountsIf, Rose};
 ghost use Rattle.pad_edge.specs.Link.{is_failed};
 ghost use Rattle.pad_edge.specs.declared.port_event.PortEvent.{PortEvent};
 ghost use Rattle.serve_loop.specs.Inside.Taken.{IsTaken, IsTakenInPart};
-ghost use Rattle.serve_loop.specs.Run.{heard, IsServed, IsTurns};
+ghost use Rattle.serve_loop.specs.Run.{heard, AreCalls, IsServed, IsTurns};
 ghost use Rattle.serve_loop.specs.Stop.{IsStopped};
 
 use crate::closing::close_waiting;
@@ -36,8 +36,8 @@ fn take_event<P: Port, W, M: Machine<W>>(
 ) -> Result<(), LinkRefused>
     requires { M.ready machine.old world.old }
     ensures ready { OnOk result (M.ready machine.new world.new) }
-    ensures taken { P.tells → M.tells → (state : M.State) → M.stands machine.old world.old state → OnOk result (IsTaken M.Step (M.stands machine.new world.new) moment state event (P.sent port.old) (P.sent port.new) (P.failed port.old) (P.failed port.new)) }
-    ensures part { P.tells → M.tells → (state : M.State) → M.stands machine.old world.old state → OnErr result (IsTakenInPart M.Step (M.stands machine.new world.new) (λ state moment event. M.breaks state moment event world.new) moment state event (P.sent port.old) (P.sent port.new) (P.failed port.old) (P.failed port.new)) }
+    ensures taken { M.tells → (state : M.State) → M.stands machine.old world.old state → OnOk result (IsTaken P.tells M.Step (M.stands machine.new world.new) moment state event (P.sent port.old) (P.sent port.new) (P.failed port.old) (P.failed port.new)) }
+    ensures part { M.tells → (state : M.State) → M.stands machine.old world.old state → OnErr result (IsTakenInPart P.tells M.Step (M.stands machine.new world.new) (λ state moment event. M.breaks state moment event world.new) moment state event (P.sent port.old) (P.sent port.new) (P.failed port.old) (P.failed port.new)) }
     ensures events { P.tells → P.events port.new ≡ P.events port.old }
     ensures counts { (P.faults port.new ≡ P.faults port.old) × (P.ends port.new ≡ P.ends port.old) }
     ensures leaves { M.leaves world.old world.new }
@@ -68,9 +68,12 @@ pub fn serve<P: Port, W, M: Machine<W>, C: Clock>(
 ) -> Result<u64, LinkRefused>
     requires { M.ready machine.old world.old }
 
-    // Where port and world tell: what went out is that of a run of the machine over the events that were given.
-    ensures served { P.tells → M.tells → (state : M.State) → M.stands machine.old world.old state → IfOk result (λ made. IsServed M.Step (M.stands machine.new world.new) state made C.tells (C.coming clock.old) (P.events port.old) (P.events port.new) (P.sent port.old) (P.sent port.new) (P.failed port.old) (P.failed port.new)) }
-    ensures stopped { P.tells → M.tells → (state : M.State) → M.stands machine.old world.old state → OnErr result (IsStopped M.Step (M.stands machine.new world.new) (λ state moment event. M.breaks state moment event world.new) state (P.events port.old) (P.events port.new) (P.sent port.old) (P.sent port.new) (P.failed port.old) (P.failed port.new)) }
+    // Where the world tells: it did a run of the machine. Where the port tells too: over the events that were given, and that is what went out.
+    ensures served { M.tells → (state : M.State) → M.stands machine.old world.old state → IfOk result (λ made. IsServed M.Step (M.stands machine.new world.new) state turns made P.tells C.tells (C.coming clock.old) (P.events port.old) (P.events port.new) (P.sent port.old) (P.sent port.new) (P.failed port.old) (P.failed port.new)) }
+    ensures stopped { M.tells → (state : M.State) → M.stands machine.old world.old state → OnErr result (IsStopped M.Step (M.stands machine.new world.new) (λ state moment event. M.breaks state moment event world.new) state turns P.tells C.tells (C.coming clock.old) (P.events port.old) (P.events port.new) (P.sent port.old) (P.sent port.new) (P.failed port.old) (P.failed port.new)) }
+
+    // Where the port tells, whether the world does or not.
+    ensures calls { P.tells → (events : List PortEvent) × (P.events port.new ≡ P.events port.old ++ events) × AreCalls turns events }
     ensures turns { P.tells → IfOk result (λ made. (events : List PortEvent) × (P.events port.new ≡ P.events port.old ++ events) × IsTurns turns made events) }
 
     // Whether they tell or not.

@@ -18,11 +18,11 @@ deliver_one-requires g c =
     may_do hangs.0 c.loop-out.waiting.items (g.P.Port.spare c.loop-out.port) out (drop (at + 1) outs) (subst (HangsAfter hangs.0) first hangs.1) hangs.2
 
 pub returns-in_err-deliver_one-clause-cut : goal.returns-in_err-deliver_one-clause-cut
-returns-in_err-deliver_one-clause-cut g c = λ told.
+returns-in_err-deliver_one-clause-cut g c =
     let P = g.P.Port in let outs = c.args.outs.now in let at = c.loop-out.out-index in
-    let same = c.in_err-deliver_one.ensures.same told in
-    on_err c.from_residual.result (cut_at c.args.waiting.now.items c.loop-out.waiting.items outs (take at outs) (drop at outs) (P.sent c.args.port.now) (P.sent c.loop-out.port) (P.sent c.deliver_one.new.port)
-    (P.failed c.args.port.now) (P.failed c.loop-out.port) (P.failed c.deliver_one.new.port) (c.loop-out.invariant.delivered told) (sym (take-append-drop at outs)) same.0 same.1)
+    let same = c.in_err-deliver_one.ensures.same in
+    on_err c.from_residual.result (cut_at P.tells c.args.waiting.now.items c.loop-out.waiting.items outs (take at outs) (drop at outs) (P.sent c.args.port.now) (P.sent c.loop-out.port) (P.sent c.deliver_one.new.port)
+    (P.failed c.args.port.now) (P.failed c.loop-out.port) (P.failed c.deliver_one.new.port) c.loop-out.invariant.delivered (sym (take-append-drop at outs)) (λ told. (same told).0) (λ told. (same told).1))
 
 pub loop-out-preserved : goal.loop-out-preserved
 loop-out-preserved g c =
@@ -33,10 +33,10 @@ loop-out-preserved g c =
     let front : take (at + 1) outs ≡ take at outs ++ out ∷ [] = take_more outs at out c.loop-out-test.true ∙ ap (λ (o : Out). take at outs ++ o ∷ []) (sym c.out-item.is) in
     let before = c.args.waiting.now.items in let mid = c.loop-out.waiting.items in let after = c.deliver_one.new.waiting.items in
     record {
-      delivered = λ told.
-          let R : List Out → Type 0 = λ l. IsDelivered before after l (P.sent c.args.port.now) (P.sent c.deliver_one.new.port) (P.failed c.args.port.now) (P.failed c.deliver_one.new.port) in
-          subst R (sym front) (delivered_then before mid after (take at outs) (out ∷ []) (P.sent c.args.port.now) (P.sent c.loop-out.port) (P.sent c.deliver_one.new.port)
-          (P.failed c.args.port.now) (P.failed c.loop-out.port) (P.failed c.deliver_one.new.port) (c.loop-out.invariant.delivered told) (c.in_ok-deliver_one.ensures.delivered told));
+      delivered =
+          let R : List Out → Type 0 = λ l. IsDelivered P.tells before after l (P.sent c.args.port.now) (P.sent c.deliver_one.new.port) (P.failed c.args.port.now) (P.failed c.deliver_one.new.port) in
+          subst R (sym front) (delivered_then P.tells before mid after (take at outs) (out ∷ []) (P.sent c.args.port.now) (P.sent c.loop-out.port) (P.sent c.deliver_one.new.port)
+          (P.failed c.args.port.now) (P.failed c.loop-out.port) (P.failed c.deliver_one.new.port) c.loop-out.invariant.delivered c.in_ok-deliver_one.ensures.delivered);
       events = λ told. c.deliver_one.ensures.events told ∙ c.loop-out.invariant.events told;
       counts = (c.deliver_one.ensures.counts.0 ∙ c.loop-out.invariant.counts.0, c.deliver_one.ensures.counts.1 ∙ c.loop-out.invariant.counts.1);
       load =
