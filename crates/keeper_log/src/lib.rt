@@ -21,3 +21,6 @@ mod storing;
 pub use answer::Answer;
 pub use entries::Entries;
 pub use keeper::Keeper;
+
+#[cfg(test)]
+mod tests;
