@@ -1,0 +1,10 @@
+mod AllChannels
+mod Asking
+mod Files
+mod Getting
+mod Known
+mod Leaving
+mod Loads
+mod Parting
+mod Putting
+mod Reading
