@@ -1,0 +1,27 @@
+use Rattle.std.proofs.Common.{refl, sym, subst}
+use Rattle.std.proofs.lemmas.Result.{err_from_is_err_and}
+use Rattle.pad_client.specs.View.{View, StandsAs}
+use Rattle.pad_client.proofs.Taking.{taken, still, young_after}
+use Rattle.pad_client.proofs.client.Client.receive.Goals as goal
+
+pub returns-clause-receives : goal.returns-clause-receives
+returns-clause-receives g c client stands clash =
+    let i = c.self.inside in
+    let held : View = record { copy = i.copy; unreadable = i.unreadable; requests = i.requests } in
+    let new : View = record { copy = c.receive.new.self; unreadable = i.unreadable; requests = c.use_message.new.requests } in
+    let stood = subst (λ (v : View). StandsAs v client) (sym c.self.view_is) stands in
+    let given = c.in_ok-moved.ensures.follows client.copy stood.copy clash in
+    (given.0, given.1, taken held new client given.0 c.args.entry c.args.message stood given.2 (young_after client.copy given.0 c.args.message c.in_ok-moved.moved stands.not_repaired given.1) refl (c.use_message.ensures.used c.args.message c.requires.named))
+
+pub returns-in_err-moved-clause-full : goal.returns-in_err-moved-clause-full
+returns-in_err-moved-clause-full g c =
+    let told = err_from_is_err_and c.from_residual.result c.from_residual.ensures.1 in
+    rw told.1 (λ is client stands. c.in_err-moved.ensures.full (told.2.0 is) client.copy (subst (λ (v : View). StandsAs v client) (sym c.self.view_is) stands).copy)
+
+pub returns-in_err-moved-clause-still : goal.returns-in_err-moved-clause-still
+returns-in_err-moved-clause-still g c =
+    let i = c.self.inside in
+    let held : View = record { copy = i.copy; unreadable = i.unreadable; requests = i.requests } in
+    let new : View = record { copy = c.receive.new.self; unreadable = i.unreadable; requests = i.requests } in
+    let told = err_from_is_err_and c.from_residual.result c.from_residual.ensures.1 in
+    rw told.1 (λ is client stands. still held new (c.in_err-moved.ensures.still (told.2.0 is)) refl refl client (subst (λ (v : View). StandsAs v client) (sym c.self.view_is) stands))

@@ -1,0 +1,3 @@
+-- Words that only private functions use.
+pub mod Refused
+pub mod Held

@@ -1,0 +1,7 @@
+pub mod State
+pub mod Refusal
+pub mod Calls
+pub mod Content
+pub mod Hear
+pub mod View
+pub mod Inside

@@ -1,0 +1,24 @@
+-- The state of a client.
+use Rattle.std.specs.Prelude.{ℕ}
+use Rattle.client_copy.specs.State as copies
+use Rattle.client_requests.specs.State as requested
+
+-- `C` stands for the working copy: of the machine its state, in code what contracts see of it
+pub record State (C : Type 0) : Type 0 where
+  pub copy : C
+  -- how many contents spelled no message
+  pub unreadable : ℕ
+  -- what was requested, and what awaits its answer
+  pub requests : requested.State
+
+-- the machine's state
+abbrev pub ClientState : Type 0
+ClientState = State copies.Copy
+
+-- a new client
+abbrev pub new_client : ClientState
+new_client = record { copy = copies.new_copy; unreadable = 0; requests = requested.no_requests }
+
+-- the client with this for its requests: what touches them alone changes nothing else
+abbrev pub with_requests : {C : Type 0} → requested.State → State C → State C
+with_requests requests client = record client { requests = requests }

@@ -1,0 +1,42 @@
+-- What contracts see of a client: the state with what they see of its working copy.
+use Rattle.std.specs.Prelude.{◌≡◌, ℕ, ◌^◌, ◌-◌, false, min, List, ◌∷◌}
+use Rattle.pad_message.specs.declared.message.Message.{Message}
+use Rattle.pad_message.specs.Content.{Reads}
+use Rattle.netflux_codec.specs.declared.reply.Reply.{Reply}
+use Rattle.client_copy.specs.View as copies
+use Rattle.client_copy.specs.View.{NoClash}
+use Rattle.pad_client.specs.State.{State, ClientState}
+use Rattle.pad_client.specs.Hear.{Addressed, IsBrought, IsBroughtBy, Brings}
+
+abbrev pub View : Type 0
+View = State copies.View
+
+-- the client in memory stands for the machine's state. Its count of contents that spelled no message stays at 2^64 - 1. No call
+-- repairs yet, so no repair has ended.
+pub record StandsAs (held : View) (client : ClientState) : Type 0 where
+  pub copy : copies.StandsAs held.copy client.copy
+  pub unreadable : held.unreadable ≡ min client.unreadable (2 ^ 64 - 1)
+  pub requests : held.requests ≡ client.requests
+  pub not_repaired : client.copy.pad.whole ≡ false
+
+-- a client that refused stands for what it stood for
+abbrev pub StandsStill : View → View → Type 0
+StandsStill old new = (client : ClientState) → StandsAs old client → StandsAs new client
+
+-- ---- the premise on names
+
+-- no names clash among all messages that the client ever received, nor with the one that the text brings
+abbrev pub DiffersAfter : ClientState → List ℕ → Type 0
+DiffersAfter client text = NoClash client.copy.pad.all × ((message : Message) → Brings client text message → NoClash (message ∷ client.copy.pad.all))
+
+-- nor with the one that the content spells
+abbrev pub DiffersAfterContent : ClientState → List ℕ → Type 0
+DiffersAfterContent client content = NoClash client.copy.pad.all × ((message : Message) → Reads content message → NoClash (message ∷ client.copy.pad.all))
+
+-- nor with the one that the reply brings
+abbrev pub DiffersAfterReply : ClientState → Reply → Type 0
+DiffersAfterReply client said = NoClash client.copy.pad.all × ((message : Message) → IsBroughtBy client said message → NoClash (message ∷ client.copy.pad.all))
+
+-- nor with the one that what is addressed brings
+abbrev pub DiffersAfterAddressed : ClientState → Addressed → Type 0
+DiffersAfterAddressed client addressed = NoClash client.copy.pad.all × ((message : Message) → IsBrought client addressed message → NoClash (message ∷ client.copy.pad.all))
