@@ -8,6 +8,7 @@
 #![tactic(auto)]
 
 mod carrying;
+pub mod laws;
 mod working_copy;
 
 pub use working_copy::WorkingCopy;

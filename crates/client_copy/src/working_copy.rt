@@ -12,6 +12,7 @@ ghost use Rattle.client_copy.specs.Held.{IsHeldOn};
 ghost use Rattle.client_copy.specs.View.{StandsAs};
 
 mod adopting;
+mod making;
 mod receiving;
 
 use crate::carrying::{edit_work, has_text};
