@@ -1,15 +1,29 @@
 -- Own messages: what is made of a working copy, and what becomes of it then.
-use Rattle.std.specs.Prelude.{◌≡◌, if◌then◌else◌, ◌∷◌, true}
+use Rattle.std.specs.Prelude.{◌≡◌, ℕ, if◌then◌else◌, Option, Some, None, ◌∷◌, true}
+use Rattle.pad_text.specs.Hash.{document_hash}
 use Rattle.pad_message.specs.declared.kind.Kind.TheVariants as kind
 use Rattle.pad_message.specs.declared.message.Message.{Message}
+use Rattle.pad_message.specs.Adopt.{IsWhole}
 use Rattle.pad_message.specs.Kind.{is_checkpoint}
 use Rattle.pad_message.specs.Message.{name_of}
 use Rattle.pad_stroke.specs.Work.{Marked}
 use Rattle.pad_chain.specs.declared.moved.Moved.{Moved}
 use Rattle.client_work.specs.Switch.{SentWorks, switched}
-use Rattle.client_copy.specs.Pad.{Pad, Receives, committed, best_name}
+use Rattle.client_copy.specs.Pad.{Pad, Receives, committed, best_name, interval_now}
 use Rattle.client_copy.specs.State.{Copy}
 use Rattle.client_copy.specs.Receive.{Follows}
+
+-- the interval of the next checkpoint: the one that is wanted, or else the one in force
+abbrev pub next_interval : Option ℕ → ℕ → ℕ
+next_interval None in_force = in_force
+next_interval (Some wanted) in_force = wanted
+
+-- the checkpoint of the committed text, with this interval if one is wanted
+pub record IsCheckpointOf (copy : Copy) (wanted : Option ℕ) (message : Message) : Type 0 where
+  pub interval : message.kind ≡ kind.Checkpoint (next_interval wanted (interval_now copy.pad))
+  pub whole : IsWhole message (committed copy.pad)
+  pub before : message.patch.before ≡ document_hash (committed copy.pad)
+  pub parent : message.parent ≡ best_name copy.pad
 
 -- the patch message of the work
 pub record IsPatchOf (copy : Copy) (message : Message) : Type 0 where

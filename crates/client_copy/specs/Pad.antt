@@ -3,7 +3,7 @@ use Rattle.std.specs.Prelude.{◌≡◌, ℕ, Bool, false, List, [], ◌∷◌}
 use Rattle.pad_text.specs.declared.name.Name.{Name}
 use Rattle.pad_message.specs.declared.message.Message.{Message}
 use Rattle.pad_model.specs.declared.base.Base.{Base}
-use Rattle.pad_model.specs.Path.{text, last_name}
+use Rattle.pad_model.specs.Path.{text, last_name, interval}
 use Rattle.pad_model.specs.Choice.{Choice, first_choice}
 use Rattle.pad_chain.specs.declared.moved.Moved.{Moved}
 use Rattle.pad_chain.specs.Moved.{IsMoved}
@@ -31,6 +31,10 @@ committed pad = text pad.base pad.choice.chosen
 -- the name of the last message of the best chain, or the base's
 abbrev pub best_name : Pad → Name
 best_name pad = last_name pad.base pad.choice.chosen
+
+-- the interval in force after the best chain
+abbrev pub interval_now : Pad → ℕ
+interval_now pad = interval pad.base pad.choice.chosen
 
 -- the message is received, and the best chain changes by these moves
 pub record Receives (before : Pad) (message : Message) (moved : Moved) (after : Pad) : Type 0 where

@@ -1,9 +1,12 @@
 //! Own messages are made.
 
-ghost use Rattle.std.specs.Prelude.{◌≡◌, ◌≤◌, ◌+◌, ◌*◌, ℕ, List, ◌∷◌, length, Some, IfOk, IfErr, OnOk, OnErr};
+ghost use Rattle.std.specs.Prelude.{◌≡◌, ◌≤◌, ◌+◌, ◌*◌, ℕ, List, [], ◌∷◌, length, true, Some, IfSome, IfOk, IfErr, OnOk, OnErr};
 ghost use Rattle.std.specs.BTreeMap.{Updates};
+ghost use Rattle.pad_patch.specs.Misfit.{longest_text};
 ghost use Rattle.pad_message.specs.declared.kind.Kind.TheVariants as kind;
 ghost use Rattle.pad_message.specs.declared.message.Message.{Message};
+ghost use Rattle.pad_message.specs.Content.{most_operations};
+ghost use Rattle.pad_message.specs.Kind.{IsInterval, HasInterval, is_checkpoint};
 ghost use Rattle.pad_message.specs.Message.{name_of};
 ghost use Rattle.pad_graph.specs.State.{name_cmp};
 ghost use Rattle.pad_graph.specs.State as graph;
@@ -18,15 +21,15 @@ ghost use Rattle.pad_chain.specs.Tie.{StandsFor};
 ghost use Rattle.pad_chain.specs.Receive.{IsReceived, IsWithin};
 ghost use Rattle.pad_chain.specs.Knows.{Knows, IsFull};
 ghost use Rattle.client_copy.specs.State.{Copy};
-ghost use Rattle.client_copy.specs.Make.{IsPatchOf, Makes};
+ghost use Rattle.client_copy.specs.Make.{IsCheckpointOf, IsPatchOf, Makes, next_interval};
 ghost use Rattle.client_copy.specs.View.{NoClash, StandsAs};
 
 use crate::working_copy::WorkingCopy;
 use pad_chain::{Moved, ReceiveRefused, stood_is_known};
 use pad_message::{Kind, Message};
-use pad_patch::{Steps, UnitStore};
+use pad_patch::{Operation, Operations, Patch, Steps, UnitStore};
 use pad_stroke::Work;
-use pad_text::Name;
+use pad_text::{Name, Text};
 use std::alloc::{AllocError, Global};
 use std::collections::BTreeMap;
 use std::sync::ledger::Ledger;
@@ -42,6 +45,40 @@ fn keep(sent: &mut BTreeMap<Name, Work>, name: Name, own: Work) -> Result<(), Al
     }
 }
 
+/// The interval that is wanted, or else the one in force.
+fn interval_of(wanted: Option<u16>, in_force: u16) -> u16
+    requires wanted { IfSome wanted IsInterval }
+    requires in_force { IsInterval in_force }
+    ensures is { result ≡ next_interval wanted in_force }
+    ensures may { IsInterval result }
+{
+    match wanted {
+        Some(wanted) => wanted,
+        None => in_force,
+    }
+}
+
+/// All of a text.
+fn whole_text<S: UnitStore>(alloc: Global, text: &S) -> Result<Text, AllocError>
+    ensures { IfOk result (λ whole. whole ≡ S.units text.now) }
+{
+    text.read(alloc, 0, text.length())
+}
+
+/// The single operation that puts a text in its own place.
+fn in_its_place(alloc: Global, insert: Text) -> Result<Operations, AllocError>
+    requires { length insert ≤ longest_text }
+    ensures { IfOk result (λ ops. ops ≡ record { offset = 0; remove = length insert; insert = insert } ∷ []) }
+{
+    let mut ops = Vec::new(alloc);
+    ops.push(Operation {
+        offset: 0,
+        remove: insert.len() as u32,
+        insert,
+    })?;
+    Ok(Operations::new(ops))
+}
+
 impl<S: UnitStore> WorkingCopy<S> {
     /// The patch message of the work.
     pub fn patch_message(&self, alloc: Global) -> Result<Message, AllocError>
@@ -52,6 +89,27 @@ impl<S: UnitStore> WorkingCopy<S> {
         Ok(Message {
             kind: Kind::Patch,
             patch: self.work.patch(alloc)?,
+            parent: self.chain.best().name,
+        })
+    }
+
+    /// The checkpoint of the committed text, with this interval, or else the one in force.
+    pub fn checkpoint(&self, alloc: Global, wanted: Option<u16>) -> Result<Message, AllocError>
+        requires { IfSome wanted IsInterval }
+        ensures is { IfOk result (λ message. (copy : Copy) → StandsAs self.now copy → IsCheckpointOf copy wanted message) }
+        ensures kind { IfOk result (λ message. is_checkpoint message.kind ≡ true) }
+        ensures interval { IfOk result (λ message. HasInterval message.kind) }
+        ensures few { IfOk result (λ message. length message.patch.ops ≤ most_operations) }
+    {
+        let insert = whole_text(alloc, self.chain.text())?;
+        let interval = interval_of(wanted, self.chain.interval());
+        let ops = in_its_place(alloc, insert)?;
+        Ok(Message {
+            kind: Kind::Checkpoint(interval),
+            patch: Patch {
+                ops,
+                before: self.chain.hash(),
+            },
             parent: self.chain.best().name,
         })
     }
