@@ -12,8 +12,8 @@ use Rattle.pad_client.specs.declared.heard.Heard.TheVariants as heard
 use Rattle.pad_client.specs.declared.hear_refused.HearRefused.{HearRefused}
 use Rattle.pad_client.specs.declared.hear_refused.HearRefused.TheVariants.{Full}
 use Rattle.pad_client.specs.State.{ClientState}
-use Rattle.pad_client.specs.Content.{HearsMessage, HearsContent}
-use Rattle.pad_client.specs.Hear.{Addressed, content_of, HearsAddressed, HearsReply, is_content, Hears, is_strange, is_reply, IsBrought, IsBroughtBy, MeetsFull, IsRefused}
+use Rattle.pad_client.specs.Content.{MeetsFull, HearsMessage, HearsContent}
+use Rattle.pad_client.specs.Hear.{Addressed, content_of, HearsAddressed, HearsReply, is_content, Hears, is_strange, is_reply, IsBrought, IsBroughtBy, IsRefused}
 use Rattle.pad_client.specs.View.{View, StandsAs, DiffersAfter, DiffersAfterContent, DiffersAfterReply, DiffersAfterAddressed}
 use Rattle.pad_client.proofs.Taking.{spelled}
 

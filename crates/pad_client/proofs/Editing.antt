@@ -56,5 +56,5 @@ client_edited held new client operation stands same quiet edits count requests =
     let given = copy_edited held.copy new.copy client.copy operation stands.copy same edits in (
       record client { copy = given.0 },
       record { quiet = ap (λ (r : requested.State). repairs r.asked) (sym stands.requests) ∙ quiet; edited = given.0; edits = given.1; state = refl },
-      record { copy = given.2; unreadable = count ∙ stands.unreadable; requests = requests ∙ stands.requests; not_repaired = stands.not_repaired },
+      record { copy = given.2; unreadable = count ∙ stands.unreadable; requests = requests ∙ stands.requests },
     )

@@ -1,6 +1,6 @@
 mod Standing
 mod Taking
-mod Adopting
 mod Addressed
 mod Editing
 mod Counting
+mod Reporting

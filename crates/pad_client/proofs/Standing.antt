@@ -8,7 +8,7 @@ use Rattle.pad_client.specs.Hear.{HearsAbout, HearsReply, is_about}
 use Rattle.pad_client.specs.View.{View, StandsAs}
 
 pub by_requests : (held : View) (client : ClientState) (requests : requested.State) → StandsAs held client → StandsAs (with_requests requests held) (with_requests requests client)
-by_requests held client requests stands = record { copy = stands.copy; unreadable = stands.unreadable; requests = refl; not_repaired = stands.not_repaired }
+by_requests held client requests stands = record { copy = stands.copy; unreadable = stands.unreadable; requests = refl }
 
 -- so it does after a reply that brings no content
 pub about : (held new : View) (client : ClientState) (said : Reply) (answer : Heard) (requests : requested.State) → StandsAs held client → HearsAbout held.requests said answer requests

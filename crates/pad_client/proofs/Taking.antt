@@ -1,5 +1,5 @@
 -- A client stands for the state after a content.
-use Rattle.std.proofs.Common.{◌≡◌, ℕ, ◌+◌, ◌-◌, ◌^◌, min, Bool, true, false, List, sym, ◌∙◌, ap, subst, arith}
+use Rattle.std.proofs.Common.{◌≡◌, ℕ, ◌+◌, ◌-◌, ◌^◌, min, Bool, true, List, sym, ◌∙◌, ap, subst, arith}
 use Rattle.pad_message.specs.declared.message.Message.{Message}
 use Rattle.pad_message.specs.Content.{Reads}
 use Rattle.pad_model.specs.declared.base.Base.{Base}
@@ -13,7 +13,7 @@ use Rattle.client_requests.specs.State as requested
 use Rattle.pad_client.specs.declared.heard.Heard.{Heard}
 use Rattle.pad_client.specs.declared.heard.Heard.TheVariants as heard
 use Rattle.pad_client.specs.State.{ClientState}
-use Rattle.pad_client.specs.Content.{IsUnreadable, IsAdopted, MayBeAdopted, after_content, after_message, HearsMessage, HearsContent, is_counted, is_message, becomes_base, is_received}
+use Rattle.pad_client.specs.Content.{IsUnreadable, IsAdopted, MayBeAdopted, MeetsFull, after_content, after_message, HearsMessage, HearsContent, is_counted, is_message, becomes_base, is_received}
 use Rattle.pad_client.specs.View.{View, StandsAs}
 
 capped : (held count : ℕ) → held ≡ min count (2 ^ 64 - 1) → min (held + 1) (2 ^ 64 - 1) ≡ min (count + 1) (2 ^ 64 - 1)
@@ -30,19 +30,17 @@ counted held new client entry content stands none is = (
     copy = subst (λ (v : copies.View). copies.StandsAs v client.copy) (sym (ap (λ (v : View). v.copy) is)) stands.copy;
     unreadable = ap (λ (v : View). v.unreadable) is ∙ capped held.unreadable client.unreadable stands.unreadable;
     requests = ap (λ (v : View). v.requests) is ∙ ap (after_content entry) stands.requests;
-    not_repaired = stands.not_repaired;
   },
 )
 
 -- the working copy received or adopted a message
-pub taken : (held new : View) (client : ClientState) (copy : Copy) (entry : Bool) (message : Message) → StandsAs held client → copies.StandsAs new.copy copy → copy.pad.whole ≡ false
+pub taken : (held new : View) (client : ClientState) (copy : Copy) (entry : Bool) (message : Message) → StandsAs held client → copies.StandsAs new.copy copy
     → new.unreadable ≡ held.unreadable → new.requests ≡ after_message entry message held.requests
     → StandsAs new (record client { copy = copy; requests = after_message entry message client.requests })
-taken held new client copy entry message stands copy_stands young count requests = record {
+taken held new client copy entry message stands copy_stands count requests = record {
   copy = copy_stands;
   unreadable = count ∙ stands.unreadable;
   requests = requests ∙ ap (after_message entry message) stands.requests;
-  not_repaired = young;
 }
 
 -- a content that spells a message was heard as the message
@@ -62,12 +60,12 @@ adopted new client entry message given = (
 )
 
 -- a message that was received
-pub received : (new : View) (client : ClientState) (entry : Bool) (message : Message) (moved : Moved) → ¬ (IsAdopted client entry message)
+pub received : (new : View) (client : ClientState) (entry : Bool) (message : Message) (moved : Moved) → ¬ (IsAdopted client entry message) → ¬ (MeetsFull client message)
     → ((copy : Copy) × Follows client.copy message moved copy × StandsAs new (record client { copy = copy; requests = after_message entry message client.requests }))
     → (after : ClientState) × HearsMessage client entry message (heard.Content moved) after × StandsAs new after
-received new client entry message moved not given = (
+received new client entry message moved not room given = (
   record client { copy = given.0; requests = after_message entry message client.requests },
-  is_received moved given.0 not given.1,
+  is_received moved given.0 not room given.1,
   given.2,
 )
 
@@ -81,7 +79,6 @@ still held new copy_still count requests client stands = record {
   copy = copy_still client.copy stands.copy;
   unreadable = count ∙ stands.unreadable;
   requests = requests ∙ stands.requests;
-  not_repaired = stands.not_repaired;
 }
 
 -- an entry that may be adopted, and was
@@ -94,10 +91,3 @@ may_and_was new client entry message may given = (
   given.1,
   subst (λ (e : Bool). StandsAs new (record client { copy = given.0; requests = after_message e message client.requests })) (sym may.of_history) given.2,
 )
-
--- the pad that received a message has not been repaired since
-pub young_after : (copy after : Copy) (message : Message) (moved : Moved) → copy.pad.whole ≡ false → Follows copy message moved after → after.pad.whole ≡ false
-young_after copy after message moved young follows = ap (λ (c : Copy). c.pad.whole) follows.state ∙ follows.received.whole ∙ young
-
-pub young_base : (copy after : Copy) (message : Message) → Adopts copy message after → after.pad.whole ≡ false
-young_base copy after message adopts = ap (λ (c : Copy). c.pad.whole) adopts.state

@@ -1,16 +1,15 @@
 -- A content that is heard for the client's channel: of a message to it, or of an entry of a history.
 use Rattle.std.specs.Prelude.{◌≡◌, ℕ, ◌+◌, Bool, true, false, List}
-use Rattle.pad_text.specs.declared.name.Name.{Name}
 use Rattle.pad_message.specs.declared.message.Message.{Message}
 use Rattle.pad_message.specs.Message.{name_of}
 use Rattle.pad_message.specs.Content.{Reads}
 use Rattle.pad_model.specs.declared.base.Base.{Base}
-use Rattle.pad_model.specs.Base.{first_base, Gives}
-use Rattle.pad_model.specs.Count.{IsKnown}
+use Rattle.pad_model.specs.Base.{Gives}
 use Rattle.pad_chain.specs.declared.moved.Moved.{Moved}
+use Rattle.pad_chain.specs.Knows.{IsFull}
 use Rattle.client_copy.specs.State.{Copy}
 use Rattle.client_copy.specs.Receive.{Follows}
-use Rattle.client_copy.specs.Adopt.{Adopts}
+use Rattle.client_copy.specs.Adopt.{Adopts, MayAdopt}
 use Rattle.client_requests.specs.State as requested
 use Rattle.client_requests.specs.State.{is_fresh}
 use Rattle.client_requests.specs.Hear.{with_entry, with_entry_of}
@@ -22,14 +21,11 @@ use Rattle.pad_client.specs.State.{ClientState}
 abbrev pub IsUnreadable : List ℕ → Type 0
 IsUnreadable content = (message : Message) → ¬ (Reads content message)
 
--- A message may be adopted: it is the first entry that was heard of a default history, no message is known, the base is the first
--- one, and no repair has ended.
+-- a message may be adopted: it is the first entry that was heard of a default history, and nothing was received before
 pub record MayBeAdopted (client : ClientState) (entry : Bool) : Type 0 where
   pub of_history : entry ≡ true
   pub fresh : is_fresh client.requests.asked ≡ true
-  pub none_known : (name : Name) → ¬ (IsKnown client.copy.pad.base client.copy.pad.received name)
-  pub at_first_base : client.copy.pad.base.name ≡ first_base.name
-  pub not_repaired : client.copy.pad.whole ≡ false
+  pub may : MayAdopt client.copy.pad
 
 -- the message is adopted: it may be, and it can be a base
 pub record IsAdopted (client : ClientState) (entry : Bool) (message : Message) : Type 0 where
@@ -47,13 +43,17 @@ abbrev pub after_message : Bool → Message → requested.State → requested.St
 after_message true message requests = with_entry_of (name_of message) requests
 after_message false message requests = requests
 
+-- the message is of a new name, and as many names are known as there may be
+abbrev pub MeetsFull : ClientState → Message → Type 0
+MeetsFull client message = IsFull client.copy.pad.base client.copy.pad.received message
+
 -- what a message does, of an entry or not, and the answer
 pub data HearsMessage (before : ClientState) (entry : Bool) (message : Message) : Heard → ClientState → Type 0 where
   -- it becomes the base, and the work keeps its insertions
   becomes_base : (copy : Copy) → IsAdopted before entry message → Adopts before.copy message copy
       → HearsMessage before entry message heard.Adopted (record before { copy = copy; requests = after_message entry message before.requests })
-  -- it is received, and the work follows what moved
-  is_received : (moved : Moved) (copy : Copy) → ¬ (IsAdopted before entry message) → Follows before.copy message moved copy
+  -- it is received if there is room for its name, and the work follows what moved
+  is_received : (moved : Moved) (copy : Copy) → ¬ (IsAdopted before entry message) → ¬ (MeetsFull before message) → Follows before.copy message moved copy
       → HearsMessage before entry message (heard.Content moved) (record before { copy = copy; requests = after_message entry message before.requests })
 
 -- what a content does, which is an entry or not, and the answer

@@ -2,7 +2,6 @@
 use Rattle.std.specs.Prelude.{◌≡◌, if◌then◌else◌, ℕ, Bool, true, false, Option, Some, None, List}
 use Rattle.pad_message.specs.declared.message.Message.{Message}
 use Rattle.pad_message.specs.Content.{Reads}
-use Rattle.pad_chain.specs.Knows.{IsFull}
 use Rattle.netflux_codec.specs.declared.who.Who.{Who}
 use Rattle.netflux_codec.specs.declared.who.Who.TheVariants as who
 use Rattle.netflux_codec.specs.declared.reply.Reply.{Reply}
@@ -15,7 +14,7 @@ use Rattle.client_requests.specs.Hear.{Either, Forgets, HearsMember, HearsKeeper
 use Rattle.pad_client.specs.declared.heard.Heard.{Heard}
 use Rattle.pad_client.specs.declared.heard.Heard.TheVariants as heard
 use Rattle.pad_client.specs.State.{ClientState, with_requests}
-use Rattle.pad_client.specs.Content.{HearsContent}
+use Rattle.pad_client.specs.Content.{MeetsFull, HearsContent}
 
 -- ---- replies that bring no content: what they do to the requests, and the answer
 
@@ -123,10 +122,6 @@ pub record Brings (client : ClientState) (text : List ℕ) (message : Message) :
   pub said : Reply
   pub replies : Replies text said
   pub brought : IsBroughtBy client said message
-
--- the message is of a new name, and as many names are known as there may be
-abbrev pub MeetsFull : ClientState → Message → Type 0
-MeetsFull client message = IsFull client.copy.pad.base client.copy.pad.received message
 
 -- the text is refused: it brings such a message
 pub record IsRefused (client : ClientState) (text : List ℕ) : Type 0 where

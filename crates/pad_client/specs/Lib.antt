@@ -4,4 +4,5 @@ pub mod Calls
 pub mod Content
 pub mod Hear
 pub mod View
+pub mod Report
 pub mod Inside

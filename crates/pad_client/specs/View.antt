@@ -1,5 +1,5 @@
 -- What contracts see of a client: the state with what they see of its working copy.
-use Rattle.std.specs.Prelude.{◌≡◌, ℕ, ◌^◌, ◌-◌, false, min, List, ◌∷◌}
+use Rattle.std.specs.Prelude.{◌≡◌, ℕ, ◌^◌, ◌-◌, min, List, ◌∷◌}
 use Rattle.pad_message.specs.declared.message.Message.{Message}
 use Rattle.pad_message.specs.Content.{Reads}
 use Rattle.netflux_codec.specs.declared.reply.Reply.{Reply}
@@ -11,13 +11,11 @@ use Rattle.pad_client.specs.Hear.{Addressed, IsBrought, IsBroughtBy, Brings}
 abbrev pub View : Type 0
 View = State copies.View
 
--- the client in memory stands for the machine's state. Its count of contents that spelled no message stays at 2^64 - 1. No call
--- repairs yet, so no repair has ended.
+-- the client in memory stands for the machine's state. Its count of contents that spelled no message stays at 2^64 - 1.
 pub record StandsAs (held : View) (client : ClientState) : Type 0 where
   pub copy : copies.StandsAs held.copy client.copy
   pub unreadable : held.unreadable ≡ min client.unreadable (2 ^ 64 - 1)
   pub requests : held.requests ≡ client.requests
-  pub not_repaired : client.copy.pad.whole ≡ false
 
 -- a client that refused stands for what it stood for
 abbrev pub StandsStill : View → View → Type 0

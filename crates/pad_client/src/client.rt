@@ -10,6 +10,7 @@ ghost use Rattle.pad_client.specs.View.{StandsAs};
 mod calls;
 mod content;
 mod hear;
+mod show;
 
 use client_copy::WorkingCopy;
 use client_requests::Requests;

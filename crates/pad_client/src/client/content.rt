@@ -1,22 +1,20 @@
 //! A content that is heard for the client's channel.
 
-ghost use Rattle.std.specs.Prelude.{◌≡◌, ◌↔◌, ◌+◌, ◌-◌, ◌^◌, min, [], ◌∷◌, ◌≤◌, true, IfOk, IfErr, IsTrue, IsFalse, length};
+ghost use Rattle.std.specs.Prelude.{◌≡◌, ◌↔◌, ◌+◌, ◌-◌, ◌^◌, min, [], ◌∷◌, ◌≤◌, true, IfOk, IfErr, OnOk, IsTrue, IsFalse, length};
 ghost use Rattle.pad_message.specs.declared.message.Message.{Message};
 ghost use Rattle.pad_message.specs.Content.{Reads, most_operations};
 ghost use Rattle.pad_message.specs.Message.{name_of};
 ghost use Rattle.pad_message.specs.Kind.{HasInterval};
 ghost use Rattle.pad_model.specs.declared.base.Base.{Base};
-ghost use Rattle.pad_model.specs.Base.{first_base, Gives};
-ghost use Rattle.pad_chain.specs.Knows.{IsFull};
+ghost use Rattle.pad_model.specs.Base.{Gives};
 ghost use Rattle.client_copy.specs.State.{Copy};
 ghost use Rattle.client_copy.specs.Receive.{Follows};
 ghost use Rattle.client_copy.specs.Adopt.{Adopts};
 ghost use Rattle.client_copy.specs.View.{NoClash};
 ghost use Rattle.client_requests.specs.State.{is_fresh};
 ghost use Rattle.pad_client.specs.declared.hear_refused.HearRefused.TheVariants.{Full};
-ghost use Rattle.pad_client.specs.Content.{IsAdopted, after_content, after_message, HearsMessage, HearsContent};
+ghost use Rattle.pad_client.specs.Content.{MayBeAdopted, IsAdopted, MeetsFull, after_content, after_message, HearsMessage, HearsContent};
 ghost use Rattle.pad_client.specs.State.{ClientState};
-ghost use Rattle.pad_client.specs.Inside.Held.{MayBeHeld};
 ghost use Rattle.pad_client.specs.View.{DiffersAfterContent, StandsAs, StandsStill};
 
 use crate::client::Client;
@@ -45,13 +43,6 @@ fn is_first_entry(requests: &Requests, entry: bool) -> bool
     ensures { IsTrue result ↔ ((entry ≡ true) × (is_fresh requests.now.asked ≡ true)) }
 {
     entry && is_fresh(requests)
-}
-
-/// Whether a chain of this base is the one of the first base, and has no name and no text.
-fn is_untouched(base: &Name, names: u64, size: usize) -> bool
-    ensures { IsTrue result ↔ ((base.now ≡ first_base.name) × (names ≡ 0) × (size ≡ 0)) }
-{
-    *base == Name::BASE && names == 0 && size == 0
 }
 
 /// A content was heard that spells no message.
@@ -85,7 +76,7 @@ impl<S: UnitStore> Client<S> {
     ) -> Result<Heard, HearRefused>
         ensures hears { IfOk result (λ answer. (client : ClientState) → StandsAs self.old client → DiffersAfterContent client content.now
             → (after : ClientState) × HearsContent client entry content.now answer after × StandsAs self.new after) }
-        ensures full { IfErr result (λ refused. refused ≡ Full → (client : ClientState) → StandsAs self.old client → (message : Message) × Reads content.now message × IsFull client.copy.pad.base client.copy.pad.received message) }
+        ensures full { IfErr result (λ refused. refused ≡ Full → (client : ClientState) → StandsAs self.old client → (message : Message) × Reads content.now message × MeetsFull client message) }
         ensures still { IfErr result (λ refused. refused ≡ Full → StandsStill self.old self.new) }
         ensures last { self.new.requests.last ≡ self.old.requests.last }
     {
@@ -119,7 +110,7 @@ impl<S: UnitStore> Client<S> {
         requires interval { HasInterval message.kind }
         ensures hears { IfOk result (λ answer. (client : ClientState) → StandsAs self.old client → NoClash client.copy.pad.all → NoClash (message ∷ client.copy.pad.all)
             → (after : ClientState) × HearsMessage client entry message answer after × StandsAs self.new after) }
-        ensures full { IfErr result (λ refused. refused ≡ Full → (client : ClientState) → StandsAs self.old client → IsFull client.copy.pad.base client.copy.pad.received message) }
+        ensures full { IfErr result (λ refused. refused ≡ Full → (client : ClientState) → StandsAs self.old client → MeetsFull client message) }
         ensures still { IfErr result (λ refused. refused ≡ Full → StandsStill self.old self.new) }
         ensures last { self.new.requests.last ≡ self.old.requests.last }
     {
@@ -148,8 +139,7 @@ impl<S: UnitStore> Client<S> {
         ensures refuses { IfOk result (λ adopted. IsFalse adopted → (self.new ≡ self.old) × ((client : ClientState) → StandsAs self.old client → NoClash client.copy.pad.all → ¬ (IsAdopted client entry message.now))) }
         ensures last { self.new.requests.last ≡ self.old.requests.last }
     {
-        let names = self.copy.chain().known();
-        if self.may_adopt(entry, names) {
+        if self.may_adopt(entry) {
             return self.adopt_entry(alloc, name, message);
         }
         Ok(false)
@@ -177,15 +167,13 @@ impl<S: UnitStore> Client<S> {
         Ok(adopted)
     }
 
-    /// Whether a message may be adopted, if so many names are known: it is the first entry that was heard of a default history, and
-    /// nothing was received before. A chain of the first base that knows no message has the empty text.
-    fn may_adopt(&self, entry: bool, names: u64) -> bool
-        ensures { IsTrue result ↔ MayBeHeld self.now entry names }
+    /// Whether a message may be adopted: it is the first entry that was heard of a default history, and nothing was received before.
+    fn may_adopt(&self, entry: bool) -> bool
+        ensures may { (client : ClientState) → StandsAs self.now client → NoClash client.copy.pad.all → IsTrue result ↔ MayBeAdopted client entry }
+        ensures empty { IsTrue result → self.now.copy.pad.chain.branch.branch.units ≡ [] }
     {
-        let base = self.copy.base();
-        let size = self.copy.text().length();
         if is_first_entry(&self.requests, entry) {
-            return is_untouched(&base, names, size);
+            return self.copy.may_adopt();
         }
         false
     }
@@ -203,7 +191,8 @@ impl<S: UnitStore> Client<S> {
         requires interval { HasInterval message.kind }
         ensures receives { IfOk result (λ moved. (client : ClientState) → StandsAs self.old client → NoClash (message ∷ client.copy.pad.all)
             → (copy : Copy) × Follows client.copy message moved copy × StandsAs self.new (record client { copy = copy; requests = after_message entry message client.requests })) }
-        ensures full { IfErr result (λ refused. refused ≡ Full → (client : ClientState) → StandsAs self.old client → IsFull client.copy.pad.base client.copy.pad.received message) }
+        ensures room { OnOk result ((client : ClientState) → StandsAs self.old client → ¬ (MeetsFull client message)) }
+        ensures full { IfErr result (λ refused. refused ≡ Full → (client : ClientState) → StandsAs self.old client → MeetsFull client message) }
         ensures still { IfErr result (λ refused. refused ≡ Full → StandsStill self.old self.new) }
         ensures last { self.new.requests.last ≡ self.old.requests.last }
     {

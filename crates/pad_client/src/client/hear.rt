@@ -4,7 +4,8 @@ ghost use Rattle.std.specs.Prelude.{◌≡◌, IfOk, IfErr};
 ghost use Rattle.pad_message.specs.declared.message.Message.{Message};
 ghost use Rattle.pad_client.specs.declared.hear_refused.HearRefused.TheVariants.{Full};
 ghost use Rattle.pad_client.specs.State.{ClientState};
-ghost use Rattle.pad_client.specs.Hear.{HearsWho, HearsAcked, IfItsChannel, HearsEnd, HearsUnknown, addressed_to, HearsAddressed, HearsReply, Hears, IsBrought, IsBroughtBy, MeetsFull, IsRefused};
+ghost use Rattle.pad_client.specs.Content.{MeetsFull};
+ghost use Rattle.pad_client.specs.Hear.{HearsWho, HearsAcked, IfItsChannel, HearsEnd, HearsUnknown, addressed_to, HearsAddressed, HearsReply, Hears, IsBrought, IsBroughtBy, IsRefused};
 ghost use Rattle.pad_client.specs.View.{DiffersAfter, DiffersAfterReply, DiffersAfterAddressed, StandsAs, StandsStill};
 
 use crate::client::Client;

@@ -1,6 +1,6 @@
 use Rattle.std.proofs.Common.{refl, sym, subst, true}
 use Rattle.pad_client.specs.View.{View, StandsAs}
-use Rattle.pad_client.proofs.Taking.{taken, young_base}
+use Rattle.pad_client.proofs.Taking.{taken}
 use Rattle.pad_client.proofs.client.Client.adopt_entry.Goals as goal
 
 pub returns-then-adopted-clause-adopts : goal.returns-then-adopted-clause-adopts
@@ -10,7 +10,7 @@ returns-then-adopted-clause-adopts g c is client stands more =
     let new : View = record { copy = c.adopt.new.self; unreadable = i.unreadable; requests = c.hear_entry_of.new.self } in
     let stood = subst (λ (v : View). StandsAs v client) (sym c.self.view_is) stands in
     let given = c.in_ok-adopted.ensures.adopts c.if-adopted.true client.copy stood.copy more in
-    (given.0, given.1, taken held new client given.0 true c.args.message.now stood given.2 (young_base client.copy given.0 c.args.message.now given.1) refl (rw (sym c.requires.named) c.hear_entry_of.ensures))
+    (given.0, given.1, taken held new client given.0 true c.args.message.now stood given.2 refl (rw (sym c.requires.named) c.hear_entry_of.ensures))
 
 pub returns-else-adopted-clause-refuses : goal.returns-else-adopted-clause-refuses
 returns-else-adopted-clause-refuses g c is =

@@ -1,7 +1,7 @@
 use Rattle.std.proofs.Common.{refl, sym, subst}
 use Rattle.std.proofs.lemmas.Result.{err_from_is_err_and}
 use Rattle.pad_client.specs.View.{View, StandsAs}
-use Rattle.pad_client.proofs.Taking.{taken, still, young_after}
+use Rattle.pad_client.proofs.Taking.{taken, still}
 use Rattle.pad_client.proofs.client.Client.receive.Goals as goal
 
 pub returns-clause-receives : goal.returns-clause-receives
@@ -11,7 +11,10 @@ returns-clause-receives g c client stands clash =
     let new : View = record { copy = c.receive.new.self; unreadable = i.unreadable; requests = c.use_message.new.requests } in
     let stood = subst (λ (v : View). StandsAs v client) (sym c.self.view_is) stands in
     let given = c.in_ok-moved.ensures.follows client.copy stood.copy clash in
-    (given.0, given.1, taken held new client given.0 c.args.entry c.args.message stood given.2 (young_after client.copy given.0 c.args.message c.in_ok-moved.moved stands.not_repaired given.1) refl (c.use_message.ensures.used c.args.message c.requires.named))
+    (given.0, given.1, taken held new client given.0 c.args.entry c.args.message stood given.2 refl (c.use_message.ensures.used c.args.message c.requires.named))
+
+pub returns-clause-room : goal.returns-clause-room
+returns-clause-room g c client stands = c.in_ok-moved.ensures.room client.copy (subst (λ (v : View). StandsAs v client) (sym c.self.view_is) stands).copy
 
 pub returns-in_err-moved-clause-full : goal.returns-in_err-moved-clause-full
 returns-in_err-moved-clause-full g c =

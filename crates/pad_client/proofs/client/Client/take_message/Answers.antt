@@ -12,6 +12,7 @@ pub returns-clause-hears : goal.returns-clause-hears
 returns-clause-hears g c client stands clash more =
     let refused = c.in_ok-adopted.ensures.refuses c.if-adopted.false in
     received c.receive.new.self client c.args.entry c.args.message c.in_ok-moved.moved (refused.1 client stands clash)
+    (c.in_ok-moved.ensures.room client (subst (λ (v : View). StandsAs v client) (sym refused.0) stands))
     (c.in_ok-moved.ensures.receives client (subst (λ (v : View). StandsAs v client) (sym refused.0) stands) more)
 
 pub returns-in_err-moved-clause-full : goal.returns-in_err-moved-clause-full
