@@ -162,7 +162,7 @@ impl UnitStore for Rope {
     }
 
     fn read(&self, alloc: Global, from: usize, to: usize) -> Result<Text, AllocError> {
-        let mut units = Vec::new(alloc);
+        let mut units = Vec::with_capacity(alloc, to - from)?;
         self.kept.read_into(from, to, &mut units)?;
         Ok(Text::from_units(units))
     }

@@ -6,5 +6,5 @@ use Rattle.pad_rope.proofs.rope.RopeUnitStore.read.Goals as goal
 pub from_units-requires : goal.from_units-requires
 from_units-requires c =
     let us = c.args.self.now.kept.units in
-    let is : c.read_into.new.units.items ≡ between c.args.from c.args.to us = c.in_ok-read_into.ensures ∙ ap (λ xs. xs ++ between c.args.from c.args.to us) c.new-units.ensures.items in
+    let is : c.read_into.new.units.items ≡ between c.args.from c.args.to us = c.in_ok-read_into.ensures ∙ ap (λ xs. xs ++ between c.args.from c.args.to us) c.in_ok-units.ensures.items in
     rw is (IsText-between us c.args.from c.args.to c.args.self.now.is_text c.requires.ordered c.requires.starts_whole c.requires.ends_whole)
