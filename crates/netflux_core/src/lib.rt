@@ -17,3 +17,6 @@ mod laws;
 pub use hub::Hub;
 pub use keep::Keep;
 pub use laws::{acknowledged_entries_are_the_last, stored_entries_stay, unfailing_runs_hold_all};
+
+#[cfg(test)]
+mod tests;
