@@ -25,8 +25,8 @@ fn begins_as_number(text: &str) -> bool
     !matches!(text.as_bytes(), [b'+', ..] | [b'0', _, ..])
 }
 
-/// The number that a text is, where it is in this range.
-pub(crate) fn number_within(text: &str, least: u32, most: u32) -> Option<u32>
+/// The number that a text is, where it is in this range: decimal digits without a sign, and without a zero in front of others.
+pub fn number_within(text: &str, least: u32, most: u32) -> Option<u32>
     ensures some { IfSome result (λ number. (text.now ≡ decimal number) × (least ≤ number) × (number ≤ most)) }
     ensures none { IfNone result ((number : ℕ) → least ≤ number → number ≤ most → text.now ≢ decimal number) }
 {
