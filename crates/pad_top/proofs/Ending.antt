@@ -1,5 +1,5 @@
 -- How a replay ends, and a run with it.
-use Rattle.std.proofs.Common.{◌≡◌, ℕ, ◌≤◌, inl, inr, List, length, reverse, Option, None, Some, IfSome, refl, sym, subst, ◌∙◌}
+use Rattle.std.proofs.Common.{◌≡◌, ◌≢◌, ℕ, ◌≤◌, inl, inr, List, length, reverse, Option, None, Some, IfSome, refl, sym, subst, ◌∙◌}
 use Rattle.pad_message.specs.declared.message.Message.{Message}
 use Rattle.pad_model.specs.Base.{first_base}
 use Rattle.pad_model.specs.Best.{IsBest}
@@ -7,6 +7,7 @@ use Rattle.pad_model.specs.Laws.{SameMembers}
 use Rattle.pad_model.proofs.CallerLemmas.{differ_same, nothing_overtook, order_is_no_part, same_reversed}
 use Rattle.pad_model.specs.Path.{NamesDiffer}
 use Rattle.pad_model.specs.Report.{IsReport}
+use Rattle.pad_output.specs.Output.{AppendsSome}
 use Rattle.pad_top.specs.declared.refused.ReplayRefused.{ReplayRefused}
 use Rattle.pad_top.specs.declared.refused.ReplayRefused.TheVariants as refused
 use Rattle.pad_top.specs.declared.status.Status.{Status}
@@ -54,6 +55,13 @@ pub refusal_ends : (words : List (List ℕ)) (input : Option (List ℕ)) (read_f
 refusal_ends words input read_failed refused.ReadFault is why = (is, why, refl)
 refusal_ends words input read_failed refused.Limit is why = (is, why, refl)
 refusal_ends words input read_failed (refused.NoMemory error) is why = (is, refl)
+
+-- a run that no write stopped ends with the status that was wanted
+pub not_cut : (words : List (List ℕ)) (input : Option (List ℕ)) (read_failed : Type 0) (old new : Option (List ℕ)) (write_failed : Type 0) (text : List ℕ) (wanted result : Status)
+    → IsEnd old new write_failed text wanted result → Ends words input read_failed wanted text → result ≢ status.WriteFault → AppendsSome (Ends words input read_failed result) old new
+not_cut words input read_failed old new write_failed text wanted result (inl whole) ends other =
+    subst (λ s. AppendsSome (Ends words input read_failed s) old new) (sym whole.0) (text, ends, whole.1)
+not_cut words input read_failed old new write_failed text wanted result (inr part) ends other = absurd (other part.0)
 
 -- a run is cut short where the last write failed
 pub cut_short : (words : List (List ℕ)) (input : Option (List ℕ)) (read_failed : Type 0) (old new : Option (List ℕ)) (write_failed : Type 0) (text : List ℕ) (wanted result : Status)

@@ -4,5 +4,6 @@ mod Once
 mod Order
 mod Receiving
 mod Repeats
+mod Serving
 mod Taking
 mod WordLemmas

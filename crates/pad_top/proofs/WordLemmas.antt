@@ -1,8 +1,9 @@
 -- A list of one word.
-use Rattle.std.proofs.Common.{◌≡◌, inl, inr, ℕ, Bool, true, false, nat_eq, List, [], ◌∷◌, length, map, get_or, IsTrue, refl, sym, ap, ◌∙◌, arith}
+use Rattle.std.proofs.Common.{◌≡◌, ◌≤◌, inl, inr, ℕ, Bool, true, false, nat_eq, List, [], ◌∷◌, length, map, get_or, IsTrue, refl, sym, ap, ◌∙◌, arith}
 use Rattle.std.specs.Cmp.Lexicographic.{pointwise, bytes_decides, same_text}
-use Rattle.std.specs.Prelude.{codes, ◌==◌, ◌≢◌}
-use Rattle.pad_top.specs.Words.{IsReplay, AsksLog, IsLog, IsCommand}
+use Rattle.std.proofs.lemmas.Fmt.{decimal_injective}
+use Rattle.std.specs.Prelude.{codes, decimal, ◌==◌, ◌≢◌}
+use Rattle.pad_top.specs.Words.{IsReplay, AsksLog, IsLog, IsServe, AsksServe, IsCommand}
 
 -- a list of one element maps to one
 map-one : {A : Type 0} (f : A → List ℕ) (xs : List A) (x : A) → length xs ≡ 1 → x ≡ get_or xs 0 x → map f xs ≡ f x ∷ []
@@ -36,10 +37,21 @@ same_channel words one other first second =
     let both : codes "log" ∷ first.0 ∷ one ∷ [] ≡ codes "log" ∷ second.0 ∷ other ∷ [] = sym first.1 ∙ second.1 in
     cc
 
--- words that ask for neither are no command
-pub no_command : (words : List (List ℕ)) → ¬ (IsReplay words) → ¬ (AsksLog words) → ¬ (IsCommand words)
-no_command words no_replay no_log (inl replay) = no_replay replay
-no_command words no_replay no_log (inr asks) = no_log asks
+-- the words name one number of turns
+pub same_turns : (words : List (List ℕ)) (address folder other_address other_folder : List ℕ) (one other : ℕ)
+    → IsServe words address folder one → IsServe words other_address other_folder other → one ≡ other
+same_turns words address folder other_address other_folder one other first second =
+    let both : codes "serve" ∷ address ∷ folder ∷ decimal one ∷ [] ≡ codes "serve" ∷ other_address ∷ other_folder ∷ decimal other ∷ [] = sym first.0 ∙ second.0 in
+    let said : decimal one ≡ decimal other = cc in
+    let most_one : one ≤ 1000000000 = first.4 in
+    let most_other : other ≤ 1000000000 = second.4 in
+    decimal_injective one other (omega (arith, most_one)) (omega (arith, most_other)) said
+
+-- words that ask for none of the commands are no command
+pub no_command : (words : List (List ℕ)) → ¬ (IsReplay words) → ¬ (AsksLog words) → ¬ (AsksServe words) → ¬ (IsCommand words)
+no_command words no_replay no_log no_server (inl replay) = no_replay replay
+no_command words no_replay no_log no_server (inr (inl asks)) = no_log asks
+no_command words no_replay no_log no_server (inr (inr asks)) = no_server asks
 
 -- a list of three elements maps to three
 pub three_words : {A : Type 0} (f : A → List ℕ) (xs : List A) (x y z : A) → length xs ≡ 3 → x ≡ get_or xs 0 x → y ≡ get_or xs 1 y → z ≡ get_or xs 2 z
@@ -50,6 +62,18 @@ three_words f (a ∷ b ∷ []) x y z three first second third = absurd (omega ar
 three_words f (a ∷ b ∷ d ∷ []) x y z three first second third =
     ap (λ w. f w ∷ f b ∷ f d ∷ []) (sym first) ∙ ap (λ w. f x ∷ f w ∷ f d ∷ []) (sym second) ∙ ap (λ w. f x ∷ f y ∷ f w ∷ []) (sym third)
 three_words f (a ∷ b ∷ d ∷ e ∷ xs) x y z three first second third = absurd (omega arith)
+
+-- a list of four elements maps to four
+pub four_words : {A : Type 0} (f : A → List ℕ) (xs : List A) (w x y z : A) → length xs ≡ 4 → w ≡ get_or xs 0 w → x ≡ get_or xs 1 x → y ≡ get_or xs 2 y → z ≡ get_or xs 3 z
+    → map f xs ≡ f w ∷ f x ∷ f y ∷ f z ∷ []
+four_words f [] w x y z four first second third fourth = absurd (omega arith)
+four_words f (a ∷ []) w x y z four first second third fourth = absurd (omega arith)
+four_words f (a ∷ b ∷ []) w x y z four first second third fourth = absurd (omega arith)
+four_words f (a ∷ b ∷ d ∷ []) w x y z four first second third fourth = absurd (omega arith)
+four_words f (a ∷ b ∷ d ∷ e ∷ []) w x y z four first second third fourth =
+    ap (λ i. f i ∷ f b ∷ f d ∷ f e ∷ []) (sym first) ∙ ap (λ i. f w ∷ f i ∷ f d ∷ f e ∷ []) (sym second)
+    ∙ ap (λ i. f w ∷ f x ∷ f i ∷ f e ∷ []) (sym third) ∙ ap (λ i. f w ∷ f x ∷ f y ∷ f i ∷ []) (sym fourth)
+four_words f (a ∷ b ∷ d ∷ e ∷ h ∷ xs) w x y z four first second third fourth = absurd (omega arith)
 
 -- a text that a test found to be the wanted one
 pub wanted_text : (text want : List ℕ) (same : Bool) → same ≡ pointwise nat_eq text want → IsTrue same → text ≡ want

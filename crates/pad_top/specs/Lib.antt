@@ -5,5 +5,6 @@ pub mod Log
 pub mod Received
 pub mod Replay
 pub mod Run
+pub mod Serve
 pub mod Status
 pub mod Words

@@ -46,6 +46,7 @@ LogEnds channel told files store_failed status.ReadFault output = ⊥
 LogEnds channel told files store_failed status.WriteFault output = ⊥
 LogEnds channel told files store_failed status.StoreFault output =
     store_failed × ((part : List ℕ) × IsPartOfLog channel told files part × (output ≡ part ++ status_line status.StoreFault))
+LogEnds channel told files store_failed status.LinkFault output = ⊥
 LogEnds channel told files store_failed status.Limit output = ⊥
 LogEnds channel told files store_failed status.NoMemory output = IsPartOfLog channel told files output
 LogEnds channel told files store_failed status.Damaged output = (part : List ℕ) × IsPartOfLog channel told files part

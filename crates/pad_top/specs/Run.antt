@@ -1,4 +1,4 @@
--- How a run ends whose words ask for no log.
+-- How a run ends whose words ask for no folder: a replay, and words that are no command.
 use Rattle.std.specs.Prelude.{◌≡◌, ℕ, List, [], Option, IfSome}
 use Rattle.pad_output.specs.Output.{AppendsPartOfSome}
 use Rattle.pad_top.specs.declared.status.Status.{Status}
@@ -15,6 +15,7 @@ Ends words input read_failed status.Usage output = ¬ (IsCommand words) × (outp
 Ends words input read_failed status.ReadFault output = IsReplay words × read_failed × (output ≡ status_line status.ReadFault)
 Ends words input read_failed status.WriteFault output = ⊥
 Ends words input read_failed status.StoreFault output = ⊥
+Ends words input read_failed status.LinkFault output = ⊥
 Ends words input read_failed status.Limit output = IsReplay words × IfSome input IsPastLimit × (output ≡ status_line status.Limit)
 Ends words input read_failed status.NoMemory output = IsReplay words × (output ≡ [])
 Ends words input read_failed status.Damaged output = ⊥

@@ -1,6 +1,7 @@
 -- The words of a command line.
-use Rattle.std.specs.Prelude.{◌≡◌, ◌≢◌, ◌⊎◌, ℕ, List, [], ◌∷◌, codes}
+use Rattle.std.specs.Prelude.{◌≡◌, ◌≢◌, ◌≤◌, ◌⊎◌, ℕ, List, [], ◌∷◌, codes, decimal}
 use Rattle.pad_text.specs.Digits.{IsDigits}
+use Rattle.pad_top.specs.declared.words.TheConstants.{MOST_TURNS}
 
 -- the words ask for a replay
 abbrev pub IsReplay : List (List ℕ) → Type 0
@@ -14,6 +15,18 @@ IsLog words channel = (folder : List ℕ) × (words ≡ codes "log" ∷ folder �
 abbrev pub AsksLog : List (List ℕ) → Type 0
 AsksLog words = (channel : List ℕ) × IsLog words channel
 
+-- the words ask to serve the channels in a folder at an address, for so many turns
+abbrev pub IsServe : (words : List (List ℕ)) → (address folder : List ℕ) → (turns : ℕ) → Type 0
+IsServe words address folder turns = (words ≡ codes "serve" ∷ address ∷ folder ∷ decimal turns ∷ []) × (address ≢ []) × (folder ≢ []) × (1 ≤ turns) × (turns ≤ MOST_TURNS)
+
+-- the words ask to serve
+abbrev pub AsksServe : List (List ℕ) → Type 0
+AsksServe words = (address folder : List ℕ) × (turns : ℕ) × IsServe words address folder turns
+
+-- the words ask for no folder
+abbrev pub AsksNoFolder : List (List ℕ) → Type 0
+AsksNoFolder words = ¬ (AsksLog words) × ¬ (AsksServe words)
+
 -- the words ask for a command
 abbrev pub IsCommand : List (List ℕ) → Type 0
-IsCommand words = IsReplay words ⊎ AsksLog words
+IsCommand words = IsReplay words ⊎ (AsksLog words ⊎ AsksServe words)

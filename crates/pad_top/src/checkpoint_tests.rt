@@ -1,6 +1,7 @@
 //! Replays of inputs with checkpoints. The expected names, hashes and counts are those of another program.
 
-use super::{Status, run};
+use super::Status;
+use super::tests::run_alone;
 use disk_volume::MemVolume;
 use pad_edge::{MemSink, MemSource};
 use pad_message::{Message, ReadRefused};
@@ -145,7 +146,7 @@ fn replayed(alloc: Global, input: &[u8]) -> Result<(Status, Vec<u8>), AllocError
     let room = vec![in alloc; b' '; 2048]?;
     let mut sink = MemSink::new(room, 512, Vec::new(alloc));
     let mut volume = MemVolume::new(alloc, Vec::new(alloc));
-    let status = run(alloc, words.as_slice(), &mut source, &mut sink, &mut volume);
+    let status = run_alone(alloc, words.as_slice(), &mut source, &mut sink, &mut volume);
     Ok((status, sink.as_slice().to_vec(alloc)?))
 }
 

@@ -1,37 +1,51 @@
-ghost use Rattle.std.specs.Prelude.{◌≡◌, ◌≢◌, ◌<◌, ◌⊎◌, List, ℕ, map, string_bytes, IfSome, IsSomeAnd};
+ghost use Rattle.std.specs.Prelude.{◌≡◌, ◌≢◌, ◌<◌, ◌⊎◌, ◌++◌, List, ℕ, map, string_bytes, IfSome, IsSomeAnd};
 ghost use Rattle.std.specs.Io.KnownBytes.{IsAtEnd};
 ghost use Rattle.pad_edge.specs.Count.{Rose};
+ghost use Rattle.pad_edge.specs.declared.port_event.PortEvent.{PortEvent};
 ghost use Rattle.pad_output.specs.Output.{AppendsSome};
-ghost use Rattle.disk_volume.specs.Disk.{reads};
+ghost use Rattle.disk_volume.specs.Disk.{AtRest, reads};
 ghost use Rattle.disk_volume.specs.Moments.{OnlySyncs};
 ghost use Rattle.log_format.specs.declared.damage.Damage.{Damage};
+ghost use Rattle.netflux_core.specs.Runs.{IsOwned};
+ghost use Rattle.pad_serve.specs.Leaves.{Stays};
+ghost use Rattle.serve_loop.specs.Run.{AreCalls};
 ghost use Rattle.pad_top.specs.Log.{IsChannelDamage, IsChannelFile, LogEnds, LogIsCutShort};
 ghost use Rattle.pad_top.specs.Replay.{IsReplayed, IsPastLimit};
 ghost use Rattle.pad_top.specs.Run.{Ends, IsCutShort};
-ghost use Rattle.pad_top.specs.Words.{IsReplay, IsLog, AsksLog};
+ghost use Rattle.pad_top.specs.Serve.{channel_logs, HasStopped, IsDone, ServeEnds, ServeIsCutShort};
+ghost use Rattle.pad_top.specs.Words.{IsReplay, IsLog, IsServe, AsksNoFolder, AsksServe};
 
 use crate::end::end;
 use crate::log::log;
 use crate::replay::replay;
+use crate::serve::serve;
 use crate::status::Status;
-use crate::words::{is_replay, log_words};
+use crate::words::{is_replay, log_words, serve_words};
 use disk_volume::Volume;
-use pad_edge::{Sink, Source};
+use pad_edge::{Clock, Port, Sink, Source};
 use std::alloc::Global;
 use std::marker::Brand;
 use std::sync::ledger::Blank;
 
-/// Runs the command that the words ask for, over what comes in, what goes out, and files, and tells how that ended.
+/// Runs the command that the words ask for, over what comes in, what goes out, files, a port and a clock, and tells how that ended.
 ///
 /// `replay` reads contents, one a line, and writes the report of the best chain of the messages that they spell.
 /// `log FOLDER CHANNEL` writes the entries of a channel, one a line, and how many there are. It changes no file.
-pub fn run<I: Source, O: Sink, V: Volume>(
+/// `serve ADDRESS FOLDER TURNS` serves the channels of a folder at an address, for so many turns or until the port ended, and writes
+/// how many turns it made. Its identities come of the key.
+pub fn run<I: Source, O: Sink, V: Volume, P: Port, C: Clock>(
     alloc: Global,
     words: &[String],
     input: &mut I,
     output: &mut O,
     volume: &mut V,
+    port: &mut P,
+    clock: &mut C,
+    key: [u8; 32],
 ) -> Status
+    // To serve, nothing is pending on the files.
+    requires rests { AsksServe (map string_bytes words.now) → V.tells → (file : List ℕ) → AtRest (V.disk volume.old) file }
+
     // Done to its end, a replay has written the report of what the lines of its whole input read as.
     ensures report { IsReplay (map string_bytes words.now) → result ≡ Status.Ok → IfSome (I.left input.old) (λ bytes.
         AppendsSome (IsReplayed bytes) (O.written output.old) (O.written output.new)) }
@@ -39,11 +53,11 @@ pub fn run<I: Source, O: Sink, V: Volume>(
 
     // How it ends: each status comes where `Ends` says so, with all written that is said there. After a failed write a
     // part from the front of that is written.
-    ensures whole { ¬ (AsksLog (map string_bytes words.now)) → result ≢ Status.WriteFault →
+    ensures whole { AsksNoFolder (map string_bytes words.now) → result ≢ Status.WriteFault →
         let read_failed = Rose (I.faults input.old) (I.faults input.new) in
         AppendsSome (Ends (map string_bytes words.now) (I.left input.old) read_failed result)
         (O.written output.old) (O.written output.new) }
-    ensures part { ¬ (AsksLog (map string_bytes words.now)) → result ≡ Status.WriteFault →
+    ensures part { AsksNoFolder (map string_bytes words.now) → result ≡ Status.WriteFault →
         let read_failed = Rose (I.faults input.old) (I.faults input.new) in
         IsCutShort (map string_bytes words.now) (I.left input.old) read_failed
         (O.written output.old) (O.written output.new) }
@@ -56,20 +70,49 @@ pub fn run<I: Source, O: Sink, V: Volume>(
         let store_failed = Rose (V.faults volume.old) (V.faults volume.new) in
         LogIsCutShort channel V.tells (reads (V.disk volume.old)) store_failed (O.written output.old) (O.written output.new) }
 
+    // Serving ends where `ServeEnds` says so, with what is said there written, sent and left in the files. It makes so many calls of `next` at most.
+    ensures serve { (address folder : List ℕ) (turns : ℕ) → IsServe (map string_bytes words.now) address folder turns → result ≢ Status.WriteFault →
+        let done = IsDone key turns (Rose (P.ends port.old) (P.ends port.new)) V.tells P.tells C.tells (V.disk volume.old) (V.disk volume.new) (V.faults volume.old) (V.faults volume.new)
+        (C.coming clock.old) (P.events port.old) (P.events port.new) (P.sent port.old) (P.sent port.new) (P.failed port.old) (P.failed port.new) in
+        let stopped = HasStopped key turns V.tells P.tells C.tells (V.disk volume.old) (V.disk volume.new) (V.faults volume.old) (V.faults volume.new)
+        (C.coming clock.old) (P.events port.old) (P.events port.new) (P.sent port.old) (P.sent port.new) (P.failed port.old) (P.failed port.new) in
+        let store_failed = Rose (V.faults volume.old) (V.faults volume.new) in let link_failed = Rose (P.faults port.old) (P.faults port.new) in
+        AppendsSome (ServeEnds done stopped store_failed link_failed result) (O.written output.old) (O.written output.new) }
+    ensures serve_part { (address folder : List ℕ) (turns : ℕ) → IsServe (map string_bytes words.now) address folder turns → result ≡ Status.WriteFault →
+        let done = IsDone key turns (Rose (P.ends port.old) (P.ends port.new)) V.tells P.tells C.tells (V.disk volume.old) (V.disk volume.new) (V.faults volume.old) (V.faults volume.new)
+        (C.coming clock.old) (P.events port.old) (P.events port.new) (P.sent port.old) (P.sent port.new) (P.failed port.old) (P.failed port.new) in
+        let stopped = HasStopped key turns V.tells P.tells C.tells (V.disk volume.old) (V.disk volume.new) (V.faults volume.old) (V.faults volume.new)
+        (C.coming clock.old) (P.events port.old) (P.events port.new) (P.sent port.old) (P.sent port.new) (P.failed port.old) (P.failed port.new) in
+        let store_failed = Rose (V.faults volume.old) (V.faults volume.new) in let link_failed = Rose (P.faults port.old) (P.faults port.new) in
+        ServeIsCutShort done stopped store_failed link_failed (O.written output.old) (O.written output.new) }
+    ensures calls { P.tells → (address folder : List ℕ) (turns : ℕ) → IsServe (map string_bytes words.now) address folder turns →
+        (events : List PortEvent) × (P.events port.new ≡ P.events port.old ++ events) × AreCalls turns events }
+
+    // It leaves files that are no channel's as they were, and port and clock where the folder could not be chosen.
+    ensures others { AsksServe (map string_bytes words.now) → V.tells → (file : List ℕ) → (IsOwned channel_logs.owns file → ⊥)
+        → Stays (V.disk volume.old) (V.disk volume.new) file }
+    ensures root_failed { result ≡ Status.StoreFault → (port.new ≡ port.old) × (clock.new ≡ clock.old) }
+
     // Each fault has its cause.
     ensures write_fault { result ≡ Status.WriteFault → Rose (O.faults output.old) (O.faults output.new) }
     ensures store_fault { result ≡ Status.StoreFault → Rose (V.faults volume.old) (V.faults volume.new) }
+    ensures link_fault { result ≡ Status.LinkFault → Rose (P.faults port.old) (P.faults port.new) }
 
-    // Faults are told: a failed write before all else, and a failed read or a failed call of the volume where no write failed.
+    // Faults are told: a failed write before all else, and a failed read, a port that failed or, but for a server, a failed call of the volume where no
+    // write failed.
     ensures write_told { O.faults output.old < O.faults output.new → result ≡ Status.WriteFault }
     ensures read_told { I.faults input.old < I.faults input.new
         → (result ≡ Status.ReadFault) ⊎ (result ≡ Status.WriteFault) }
-    ensures store_told { V.faults volume.old < V.faults volume.new
+    ensures link_told { P.faults port.old < P.faults port.new
+        → (result ≡ Status.LinkFault) ⊎ (result ≡ Status.WriteFault) }
+    ensures store_told { ¬ (AsksServe (map string_bytes words.now)) → V.faults volume.old < V.faults volume.new
         → (result ≡ Status.StoreFault) ⊎ (result ≡ Status.WriteFault) }
 
-    // The input is a replay's alone, and the folder a log's, which only syncs the files of its channel.
+    // The input is a replay's alone, port and clock are a server's, and the folder is a server's and a log's, which only syncs the files of its channel.
     ensures untouched { ¬ (IsReplay (map string_bytes words.now)) → input.new ≡ input.old }
-    ensures volume_untouched { ¬ (AsksLog (map string_bytes words.now)) → volume.new ≡ volume.old }
+    ensures port_untouched { ¬ (AsksServe (map string_bytes words.now)) → port.new ≡ port.old }
+    ensures clock_untouched { ¬ (AsksServe (map string_bytes words.now)) → clock.new ≡ clock.old }
+    ensures volume_untouched { AsksNoFolder (map string_bytes words.now) → volume.new ≡ volume.old }
     ensures syncs { V.tells → (channel : List ℕ) → IsLog (map string_bytes words.now) channel →
         OnlySyncs (IsChannelFile channel) (V.disk volume.old) (V.disk volume.new) }
     ensures follows { V.follows volume.old volume.new }
@@ -84,9 +127,17 @@ pub fn run<I: Source, O: Sink, V: Volume>(
         → ¬ (Rose (V.faults volume.old) (V.faults volume.new)) → ¬ (Rose (O.faults output.old) (O.faults output.new))
         → (result ≡ Status.Ok) ⊎ ((result ≡ Status.NoMemory) ⊎ ((result ≡ Status.Damaged)
         × (V.tells → (damage : Damage) × IsChannelDamage channel (reads (V.disk volume.old)) damage))) }
+
+    // A server without a failure is done to its end, or wants memory.
+    ensures serve_complete { AsksServe (map string_bytes words.now) → ¬ (Rose (V.faults volume.old) (V.faults volume.new))
+        → ¬ (Rose (P.faults port.old) (P.faults port.new)) → ¬ (Rose (O.faults output.old) (O.faults output.new))
+        → (result ≡ Status.Ok) ⊎ (result ≡ Status.NoMemory) }
 {
     if is_replay(words) {
         return run_replay(alloc, input, output);
+    }
+    if let Some(words) = serve_words(words) {
+        return serve(alloc, &words, output, volume, port, clock, key);
     }
     match log_words(words) {
         Some(words) => log(alloc, &words, output, volume),
@@ -107,6 +158,7 @@ fn run_replay<I: Source, O: Sink>(alloc: Global, input: &mut I, output: &mut O) 
         IsCutShort words (I.left input.old) read_failed (O.written output.old) (O.written output.new) }
     ensures write_fault { result ≡ Status.WriteFault → Rose (O.faults output.old) (O.faults output.new) }
     ensures no_store { result ≢ Status.StoreFault }
+    ensures no_link { result ≢ Status.LinkFault }
     ensures write_told { O.faults output.old < O.faults output.new → result ≡ Status.WriteFault }
     ensures read_told { I.faults input.old < I.faults input.new
         → (result ≡ Status.ReadFault) ⊎ (result ≡ Status.WriteFault) }

@@ -10,6 +10,7 @@ mod read_line;
 mod received;
 mod refused;
 mod replay;
+mod serve;
 mod status;
 mod words;
 
@@ -21,5 +22,7 @@ pub use status::Status;
 
 #[cfg(test)]
 mod checkpoint_tests;
+#[cfg(test)]
+mod serve_tests;
 #[cfg(test)]
 mod tests;

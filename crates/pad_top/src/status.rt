@@ -12,8 +12,10 @@ pub enum Status {
     ReadFault,
     /// A write of the output failed.
     WriteFault,
-    /// A call of the volume failed.
+    /// A call of the volume failed: of a log any call, of serving the choice of the folder.
     StoreFault,
+    /// The port could not listen, or failed.
+    LinkFault,
     /// The input has more bytes, or more different names of messages, than a run takes.
     Limit,
     /// There was not enough memory.
@@ -33,6 +35,7 @@ impl Status {
             Status::ReadFault => 3,
             Status::WriteFault => 4,
             Status::StoreFault => 5,
+            Status::LinkFault => 6,
             Status::Limit => 7,
             Status::NoMemory => 9,
             Status::Damaged => 10,
@@ -48,6 +51,7 @@ impl Status {
             Status::Usage => b"usage\n",
             Status::ReadFault => b"read fault\n",
             Status::StoreFault => b"store fault\n",
+            Status::LinkFault => b"link fault\n",
             Status::Limit => b"limit\n",
             Status::Damaged => b"damaged\n",
         }

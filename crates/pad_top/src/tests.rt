@@ -1,8 +1,11 @@
-//! Replays over sources and sinks in memory. The expected names and hashes are those of another program.
+//! Runs over sources, sinks, volumes, ports and clocks in memory. The expected names and hashes are those of another program.
+ghost use Rattle.std.specs.Prelude.{List, ℕ};
+ghost use Rattle.disk_volume.specs.Disk.{AtRest};
+ghost use Rattle.disk_volume.specs.Memory.{disk_of};
 
 use super::{Status, run};
 use disk_volume::{MemVolume, Volume};
-use pad_edge::{MemSink, MemSource};
+use pad_edge::{MemClock, MemPort, MemSink, MemSource};
 use std::alloc::{AllocError, Global};
 use std::process::Abort;
 use std::test::Fail;
@@ -156,12 +159,29 @@ fn spaces(alloc: Global, count: usize) -> Result<Vec<u8>, AllocError> {
 }
 
 /// These words.
-fn words_of(alloc: Global, line: &str) -> Result<Vec<String>, AllocError> {
+pub(crate) fn words_of(alloc: Global, line: &str) -> Result<Vec<String>, AllocError> {
     let mut words = Vec::new(alloc);
     for word in line.split_whitespace() {
         words.push(String::from_str(alloc, word)?)?;
     }
     Ok(words)
+}
+
+/// How the words end over these, with a port that gives nothing.
+pub(crate) fn run_alone(
+    alloc: Global,
+    words: &[String],
+    source: &mut MemSource,
+    sink: &mut MemSink,
+    volume: &mut MemVolume,
+) -> Status
+    requires { (file : List ℕ) → AtRest (disk_of volume.old) file }
+{
+    let mut port = MemPort::new(Vec::new(alloc), Vec::new(alloc));
+    let mut clock = MemClock::new(Vec::new(alloc));
+    run(
+        alloc, words, source, sink, volume, &mut port, &mut clock, [0; 32],
+    )
 }
 
 /// How the words end over these bytes, and what is written. A read or a write moves a few bytes.
@@ -170,7 +190,7 @@ fn ran(alloc: Global, line: &str, input: &[u8]) -> Result<(Status, Vec<u8>), All
     let mut source = MemSource::new(input.to_vec(alloc)?, 7, Vec::new(alloc));
     let mut sink = MemSink::new(spaces(alloc, 1024)?, 5, Vec::new(alloc));
     let mut volume = MemVolume::new(alloc, Vec::new(alloc));
-    let status = run(alloc, words.as_slice(), &mut source, &mut sink, &mut volume);
+    let status = run_alone(alloc, words.as_slice(), &mut source, &mut sink, &mut volume);
     Ok((status, sink.as_slice().to_vec(alloc)?))
 }
 
@@ -289,7 +309,19 @@ fn unreadable_lines_are_counted(rt: HostRuntime) -> Result<(), Fail> {
 #[test]
 fn other_words_are_no_command(rt: HostRuntime) -> Result<(), Fail> {
     let alloc = rt.alloc();
-    for line in ["", "replay x", "Replay", "replay replay", "-h"] {
+    for line in [
+        "",
+        "replay x",
+        "Replay",
+        "replay replay",
+        "-h",
+        "serve 127.0.0.1:9001 pads",
+        "serve 127.0.0.1:9001 pads 0",
+        "serve 127.0.0.1:9001 pads 01",
+        "serve 127.0.0.1:9001 pads +1",
+        "serve 127.0.0.1:9001 pads 1000000001",
+        "serve 127.0.0.1:9001 pads 1 1",
+    ] {
         let (status, output) = ran(alloc, line, b"")?;
         assert_eq!(rt; status, Status::Usage, "at {line:?}");
         assert_eq!(rt; output.as_slice(), b"usage\n".as_slice(), "at {line:?}");
@@ -313,7 +345,7 @@ fn faults_end_a_replay(rt: HostRuntime) -> Result<(), Fail> {
         let mut source = MemSource::new(bytes, 1, [read].to_vec(alloc)?);
         let mut sink = MemSink::new(spaces(alloc, room)?, 1, [write].to_vec(alloc)?);
         let mut volume = MemVolume::new(alloc, Vec::new(alloc));
-        let status = run(alloc, words.as_slice(), &mut source, &mut sink, &mut volume);
+        let status = run_alone(alloc, words.as_slice(), &mut source, &mut sink, &mut volume);
         assert_eq!(rt; status, want, "at {output:?}");
         assert_eq!(rt; sink.as_slice(), output.as_bytes(), "at {output:?}");
     }
@@ -328,7 +360,7 @@ fn an_input_has_at_most_2_pow_28_bytes(rt: HostRuntime) -> Result<(), Fail> {
     let mut source = MemSource::new(bytes, 1 << 20, Vec::new(alloc));
     let mut sink = MemSink::new(spaces(alloc, 64)?, 64, Vec::new(alloc));
     let mut volume = MemVolume::new(alloc, Vec::new(alloc));
-    let status = run(alloc, words.as_slice(), &mut source, &mut sink, &mut volume);
+    let status = run_alone(alloc, words.as_slice(), &mut source, &mut sink, &mut volume);
     assert_eq!(rt; status, Status::Limit);
     assert_eq!(rt; sink.as_slice(), b"limit\n".as_slice());
     Ok(())
@@ -342,6 +374,7 @@ fn statuses_have_their_numbers(rt: HostRuntime) {
         (Status::ReadFault, 3),
         (Status::WriteFault, 4),
         (Status::StoreFault, 5),
+        (Status::LinkFault, 6),
         (Status::Limit, 7),
         (Status::NoMemory, 9),
         (Status::Damaged, 10),
@@ -353,16 +386,13 @@ fn statuses_have_their_numbers(rt: HostRuntime) {
 /// The digits of a channel.
 const CHANNEL: &str = "00112233445566778899aabbccddeeff";
 
-/// How the words end over this volume, and what is written.
-fn logged(
-    alloc: Global,
-    line: &str,
-    volume: &mut MemVolume,
-) -> Result<(Status, Vec<u8>), AllocError> {
+/// How the words end over this volume as it reads, and what is written.
+fn logged(alloc: Global, line: &str, volume: &MemVolume) -> Result<(Status, Vec<u8>), AllocError> {
     let words = words_of(alloc, line)?;
     let mut source = MemSource::new(Vec::new(alloc), 7, Vec::new(alloc));
     let mut sink = MemSink::new(spaces(alloc, 256)?, 5, Vec::new(alloc));
-    let status = run(alloc, words.as_slice(), &mut source, &mut sink, volume);
+    let mut image = volume.image(alloc)?;
+    let status = run_alone(alloc, words.as_slice(), &mut source, &mut sink, &mut image);
     Ok((status, sink.as_slice().to_vec(alloc)?))
 }
 
@@ -374,14 +404,14 @@ fn a_log_tells_what_a_folder_has_of_a_channel(rt: HostRuntime) -> Result<(), Fai
     let two = format!(in alloc; "{CHANNEL}.padlog2")?;
     let mut volume = MemVolume::new(alloc, Vec::new(alloc));
 
-    let none = logged(alloc, line.as_str(), &mut volume)?;
+    let none = logged(alloc, line.as_str(), &volume)?;
     assert_eq!(rt; none.0, Status::Ok);
     assert_eq!(rt; none.1.as_slice(), b"entries 0\n".as_slice());
 
     // one entry: an open gate, 33 bytes, the sender, `m`, and a closed gate
     let old = b"PADLOG1\n\x01\x00\x00\x00\x210123456789abcdef0123456789abcdefm\x00";
     assert!(rt; volume.write_at(one.as_str(), 0, old.as_slice()).is_ok());
-    let some = logged(alloc, line.as_str(), &mut volume)?;
+    let some = logged(alloc, line.as_str(), &volume)?;
     assert_eq!(rt; some.0, Status::Ok);
     let told = b"0 0 0123456789abcdef0123456789abcdef \"m\"\nentries 1\n";
     assert_eq!(rt; some.1.as_slice(), told.as_slice());
@@ -392,7 +422,7 @@ fn a_log_tells_what_a_folder_has_of_a_channel(rt: HostRuntime) -> Result<(), Fai
             .write_at(two.as_str(), 0, b"PADLOG1\n\x00\x00".as_slice())
             .is_ok()
     );
-    let damaged = logged(alloc, line.as_str(), &mut volume)?;
+    let damaged = logged(alloc, line.as_str(), &volume)?;
     assert_eq!(rt; damaged.0, Status::Damaged);
     assert_eq!(rt; damaged.1.as_slice(), b"damaged\n".as_slice());
     Ok(())
@@ -402,14 +432,17 @@ fn a_log_tells_what_a_folder_has_of_a_channel(rt: HostRuntime) -> Result<(), Fai
 fn a_folder_that_fails_is_told(rt: HostRuntime) -> Result<(), Fail> {
     let alloc = rt.alloc();
     let line = format!(in alloc; "log pads {CHANNEL}")?;
+    let words = words_of(alloc, line.as_str())?;
+    let mut source = MemSource::new(Vec::new(alloc), 7, Vec::new(alloc));
+    let mut sink = MemSink::new(spaces(alloc, 256)?, 5, Vec::new(alloc));
     let mut volume = MemVolume::new(alloc, [0].to_vec(alloc)?);
-    let failed = logged(alloc, line.as_str(), &mut volume)?;
-    assert_eq!(rt; failed.0, Status::StoreFault);
-    assert_eq!(rt; failed.1.as_slice(), b"store fault\n".as_slice());
+    let status = run_alone(alloc, words.as_slice(), &mut source, &mut sink, &mut volume);
+    assert_eq!(rt; status, Status::StoreFault);
+    assert_eq!(rt; sink.as_slice(), b"store fault\n".as_slice());
 
     // no channel, and one in capitals
     for line in ["log pads", "log pads 00112233445566778899AABBCCDDEEFF"] {
-        let other = logged(alloc, line, &mut volume)?;
+        let other = logged(alloc, line, &volume)?;
         assert_eq!(rt; other.0, Status::Usage, "{line}");
     }
     Ok(())

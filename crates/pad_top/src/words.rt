@@ -1,8 +1,13 @@
 ghost use Rattle.std.specs.Prelude.{◌≡◌, ◌≢◌, ◌↔◌, map, string_bytes, IsTrue, IfSome, IfNone};
 ghost use Rattle.pad_text.specs.Digits.{IsDigits};
-ghost use Rattle.pad_top.specs.Words.{IsReplay, IsLog, AsksLog};
+ghost use Rattle.pad_top.specs.Words.{IsReplay, IsLog, AsksLog, IsServe, AsksServe};
 
 use netflux_codec::Channel;
+use pad_script::number_within;
+use pad_serve::ServeWords;
+
+/// How many turns a server has at most.
+pub const MOST_TURNS: u32 = 1_000_000_000;
 
 /// The folder and the channel of a command `log`.
 #[derive(Clone, Copy)]
@@ -32,6 +37,29 @@ pub(crate) fn log_words(words: &[String]) -> Option<LogWords<'_>>
                 Some(channel) => Some(LogWords {
                     folder: folder.as_str(),
                     channel,
+                }),
+                None => None,
+            }
+        }
+        _ => None,
+    }
+}
+
+/// What the words say of serving, if they ask for it.
+pub(crate) fn serve_words(words: &[String]) -> Option<ServeWords<'_>>
+    ensures some { IfSome result (λ serve. IsServe (map string_bytes words.now) serve.address.now serve.folder.now serve.turns) }
+    ensures none { IfNone result (¬ (AsksServe (map string_bytes words.now))) }
+{
+    match words {
+        [word, address, folder, turns]
+            if word.as_str() == "serve"
+                && !address.as_str().is_empty()
+                && !folder.as_str().is_empty() => {
+            match number_within(turns.as_str(), 1, MOST_TURNS) {
+                Some(turns) => Some(ServeWords {
+                    address: address.as_str(),
+                    folder: folder.as_str(),
+                    turns: u64::from(turns),
                 }),
                 None => None,
             }

@@ -1,15 +1,18 @@
-//! The program: the words of its command line, its standard input and output, the files of a folder, and its exit status.
+//! The program: the words of its command line, its standard input and output, the files of a folder, connections, the clock, and its exit status.
 #![tactic(auto)]
 
 ghost use Rattle.std.specs.Prelude.{◌≡◌};
 ghost use Rattle.std.specs.Process.{exit_status};
 ghost use Rattle.pad_top.specs.Status.{status_number};
 
-use file_edge::{FileVolume, ReaderSource, WriterSink};
+use file_edge::{FileVolume, ReaderSource, SystemClock, WriterSink};
 use pad_top::{Status, run};
+use std::alloc::AllocError;
 use std::env;
-use std::io::{self, ErrorKind};
+use std::fs::File;
+use std::io::{self, ErrorKind, Read};
 use std::process::ExitCode;
+use ws_edge::WsPort;
 
 fn main(rt: HostRuntime) -> ExitCode {
     let words = match words(&rt) {
@@ -18,20 +21,45 @@ fn main(rt: HostRuntime) -> ExitCode {
         // Arguments that cannot be had as text are no command, as no arguments are.
         Err(_) => Vec::new(rt.alloc()),
     };
-    let files = match rt.clone() {
-        Ok(files) => files,
-        Err(_) => return exit(Status::NoMemory),
-    };
+    match run_over_system(&rt, words.as_slice()) {
+        Ok(status) => exit(status),
+        Err(_) => exit(Status::NoMemory),
+    }
+}
+
+/// Runs the command that the words ask for over the system's streams, files, connections and clock.
+fn run_over_system(rt: &HostRuntime, words: &[String]) -> Result<Status, AllocError> {
     let mut input = ReaderSource::new(rt.stdin());
     let mut output = WriterSink::new(rt.stdout());
-    let mut volume = FileVolume::new(rt.alloc(), files);
-    exit(run(
+    let mut volume = FileVolume::new(rt.alloc(), rt.clone()?);
+    let mut port = WsPort::new(rt.alloc(), rt.clone()?);
+    let mut clock = SystemClock::new(rt.clone()?);
+    Ok(run(
         rt.alloc(),
-        words.as_slice(),
+        words,
         &mut input,
         &mut output,
         &mut volume,
+        &mut port,
+        &mut clock,
+        key(rt),
     ))
+}
+
+/// The key of the identities that a server gives: 32 bytes from the system, or zeros if it gives none.
+fn key(rt: &HostRuntime) -> [u8; 32] {
+    match random_bytes(rt) {
+        Ok(key) => key,
+        Err(_) => [0; 32],
+    }
+}
+
+/// 32 bytes that nobody can guess.
+fn random_bytes(rt: &HostRuntime) -> io::Result<[u8; 32]> {
+    let mut bytes = [0; 32];
+    let mut file = File::open(rt, "/dev/urandom")?;
+    file.read_exact(&mut bytes)?;
+    Ok(bytes)
 }
 
 /// The exit code that the process ends with: the number of the status.
