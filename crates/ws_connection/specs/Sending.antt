@@ -1,5 +1,5 @@
 -- What a connection sends.
-use Rattle.std.specs.Prelude.{◌≡◌, ℕ, List, drop, None}
+use Rattle.std.specs.Prelude.{◌≡◌, ℕ, List, drop, None, false}
 use Rattle.ws_outbox.specs.Outbox.{Outgoing}
 use Rattle.websocket.specs.Connection.{whole_header}
 use Rattle.websocket.specs.Frame.{encode_frame}
@@ -17,3 +17,7 @@ IsLeft bytes left = (count : ℕ) × (left ≡ drop count bytes)
 -- the turn of the last look stays as it was, and so does whether no more is taken
 abbrev pub KeepsRefusal : (old new : Outgoing) → Type 0
 KeepsRefusal old new = (new.turn ≡ old.turn) × (new.refuses ≡ old.refuses)
+
+-- no turn has looked at what waits yet, and more is taken
+abbrev pub IsNew : Outgoing → Type 0
+IsNew outgoing = (outgoing.turn ≡ 0) × (outgoing.refuses ≡ false)

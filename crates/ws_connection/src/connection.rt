@@ -1,6 +1,6 @@
-ghost use Rattle.std.specs.Prelude.{◌≡◌, ◌+◌, ◌≤◌, ◌⊎◌, ◌++◌, [], IsErr, IsErrOf, IsTrue, OnOk};
+ghost use Rattle.std.specs.Prelude.{◌≡◌, ◌+◌, ◌≤◌, ◌⊎◌, ◌++◌, [], IfOk, IsErr, IsErrOf, IsTrue, OnOk};
 ghost use Rattle.pad_edge.specs.declared.link_refused.LinkRefused.TheVariants as refused;
-ghost use Rattle.ws_connection.specs.Sending.{text_frame, IsLeft, KeepsRefusal};
+ghost use Rattle.ws_connection.specs.Sending.{text_frame, IsLeft, IsNew, KeepsRefusal};
 ghost use Rattle.ws_outbox.specs.Outbox.{to_send, unsent, judged};
 
 use crate::frames::{close_frame, text_frame};
@@ -85,7 +85,9 @@ impl Connection {
         stream: TcpStream,
         inbox: Inbox,
         response: Vec<u8>,
-    ) -> Result<Connection, LinkRefused> {
+    ) -> Result<Connection, LinkRefused>
+        ensures begins { IfOk result (λ connection. IsNew connection) }
+    {
         let mut connection = Connection {
             alloc,
             stream,

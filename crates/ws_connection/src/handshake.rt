@@ -1,3 +1,5 @@
+ghost use Rattle.ws_connection.specs.Begun.{BeginsNew};
+
 use crate::answer::{Answer, answer_to};
 use crate::connection::Connection;
 use crate::inbox::Inbox;
@@ -40,7 +42,10 @@ impl Handshake {
     }
 
     /// Reads once, and answers the request if it is whole.
-    pub fn go_on(mut self) -> Shaken {
+    #[tactic(auto, unfolding(crate::specs::Begun::BeginsNew))]
+    pub fn go_on(mut self) -> Shaken
+        ensures begins { BeginsNew result }
+    {
         match self.inbox.fill(&mut self.stream) {
             Ok(0) => return Shaken::Failed,
             Ok(_) => {}
@@ -60,7 +65,10 @@ impl Handshake {
     }
 
     /// The connection that was asked for by a request of so many bytes.
-    fn open(self, response: Vec<u8>, count: usize) -> Shaken {
+    #[tactic(auto, unfolding(crate::specs::Begun::BeginsNew))]
+    fn open(self, response: Vec<u8>, count: usize) -> Shaken
+        ensures begins { BeginsNew result }
+    {
         let Handshake {
             alloc,
             stream,
