@@ -12,6 +12,7 @@ mod Places
 mod Ready
 mod Rewinding
 mod Rising
+mod Tables
 mod Trunk
 mod Turn
 mod Turns

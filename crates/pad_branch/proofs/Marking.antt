@@ -11,7 +11,7 @@ use Rattle.pad_branch.specs.Pathless.{pathless_in}
 use Rattle.pad_branch.specs.Inside.Passing.{MarksNames}
 use Rattle.pad_list.proofs.CallerLemmas.{contains_head, contains_more, contains_cases, contains_none}
 
-name_same : (x y : Name) → is_eq (name_cmp x y) ≡ true → x ≡ y
+pub name_same : (x y : Name) → is_eq (name_cmp x y) ≡ true → x ≡ y
 name_same x y h = ap (λ bytes. record { 0 = bytes }) ((bytes_decides x.0 y.0).0 (texts_ties x.0 y.0 ∙ h))
 
 pub at_front : {A : Type 0} (xs ys : List A) (x : A) → Contains xs x → Contains (xs ++ ys) x

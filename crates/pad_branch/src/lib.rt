@@ -43,3 +43,6 @@ pub use plan::Plan;
 pub use tip::Tip;
 pub use undo::Undo;
 pub use won::Won;
+
+#[cfg(test)]
+mod tests;
