@@ -56,7 +56,7 @@ chosen_path false base [] choice chosen = subst (λ (c : Choice). IsPath base []
 chosen_path false base (message ∷ received) choice chosen = chosen.2.chosen.path
 
 -- the work is that of the rule
-came_along : FittingApplies → InverseGivesBack → (base : Base) (all received old : List Message) (held sent : SentWorks) (moved : Moved) (units to : List ℕ) (work next : Marked)
+pub came_along : FittingApplies → InverseGivesBack → (base : Base) (all received old : List Message) (held sent : SentWorks) (moved : Moved) (units to : List ℕ) (work next : Marked)
     → NamesDiffer all → AreSentAs all sent → ((name : Name) → sent_as held name ≡ sent_as sent name) → ((m : Message) → Contains received m → Contains all m)
     → (common left : List Message) → old ≡ left ++ common → moved.reverted ≡ moves_back base common left → IsPath base received old → units ≡ text base old
     → Leads (all_moves moved) units to → work.patch.before ≡ document_hash units

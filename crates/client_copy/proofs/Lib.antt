@@ -6,3 +6,6 @@ pub mod Making
 pub mod Adopting
 pub mod New
 pub mod Adoptable
+pub mod LeftMoves
+pub mod Spare
+pub mod Repairing

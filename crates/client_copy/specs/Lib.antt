@@ -6,3 +6,4 @@ pub mod Make
 pub mod Adopt
 pub mod Held
 pub mod View
+pub mod Repair

@@ -1,19 +1,27 @@
 //! The work on a text: an edit of it, and how it comes to another text.
 
-ghost use Rattle.std.specs.Prelude.{◌≡◌, ℕ, ◌≤◌, ◌<◌, ◌+◌, ◌^◌, ◌-◌, length, IfErr, OnOk, OnErr};
+ghost use Rattle.std.specs.Prelude.{◌≡◌, ℕ, List, ◌≤◌, ◌<◌, ◌+◌, ◌^◌, ◌-◌, length, IfOk, IfErr, OnOk, OnErr};
 ghost use Rattle.pad_text.specs.Text.{IsText};
 ghost use Rattle.pad_text.specs.Hash.{document_hash};
 ghost use Rattle.pad_patch.specs.Misfit.{longest_text};
 ghost use Rattle.pad_patch.specs.Piece.{text_after};
+ghost use Rattle.pad_message.specs.declared.message.Message.{Message};
+ghost use Rattle.pad_model.specs.declared.base.Base.{Base};
+ghost use Rattle.pad_model.specs.Path.{text};
+ghost use Rattle.pad_model.specs.Choice.{Choice};
+ghost use Rattle.pad_stroke.specs.Work.{empty};
 ghost use Rattle.pad_stroke.specs.Edit.{IsAllowed, IsCause, shown_after, edited};
+ghost use Rattle.pad_chain.specs.Leads.{Leads};
+ghost use Rattle.pad_chain.specs.Tie.{StandsFor};
 ghost use Rattle.client_work.specs.Switch.{switched};
 ghost use Rattle.client_work.specs.Carrying.{Ground, behind_all, IsOnGround, AreInverses, AreReady, all_moves};
 ghost use Rattle.client_copy.specs.Held.{IsHeldOn};
 
+use crate::leading::{is_same_text, lead_to};
 use client_work::carry;
 use pad_chain::{Chain, Moved};
 use pad_merge::laws::applied_patches_merge;
-use pad_patch::{Operation, UnitStore};
+use pad_patch::{Operation, Steps, UnitStore};
 use pad_row::edits::{
     allowed_applies, edit_typed, marks_of_stroke, others_stay_typed, typed_whole,
 };
@@ -23,6 +31,7 @@ use pad_stroke::{EditRefused, Work};
 use pad_text::Name;
 use std::alloc::{AllocError, Global};
 use std::collections::BTreeMap;
+use std::sync::ledger::Ledger;
 
 /// The text of a chain is a text, and no longer than one may be. It only reads it.
 pub(crate) fn has_text<S: UnitStore>(chain: &Chain<S>)
@@ -95,4 +104,56 @@ pub(crate) fn bring_along(
     }
     *work = next;
     Ok(())
+}
+
+/// A work without operations on the text of a chain.
+pub(crate) fn empty_work<S: UnitStore>(alloc: Global, chain: &Chain<S>) -> Result<Work, AllocError>
+    ensures empty { IfOk result (λ work. work ≡ empty (document_hash chain.now.branch.branch.units)) }
+    ensures stands { IfOk result (λ work. (base : Base) (received : List Message) (choice : Choice) → StandsFor chain.now base received choice → work ≡ empty (document_hash (text base choice.chosen))) }
+    ensures text { IsText chain.now.branch.branch.units }
+    ensures short { length chain.now.branch.branch.units ≤ longest_text }
+{
+    has_text(chain);
+    Work::new(alloc, chain.hash())
+}
+
+/// The work on a text as it comes along to that of a chain, from a path of it to whose end `from` is the text. It is empty if that is
+/// another text than the work's, or if the moves do not lead on from it.
+pub(crate) fn carried_to<S: UnitStore, L: Ledger>(
+    alloc: Global,
+    work: &Work,
+    sent: &BTreeMap<Name, Work>,
+    text: &S,
+    chain: &Chain<S>,
+    from: &S,
+    moved: &Moved,
+    steps: &mut Steps<L>,
+) -> Result<Work, AllocError>
+    requires { (strokes : ℕ) × IsHeldOn (S.units text.now) work.now sent.now.entries strokes }
+    ensures held { IfOk result (λ next. (strokes : ℕ) → IsHeldOn (S.units text.now) work.now sent.now.entries strokes → IsHeldOn chain.now.branch.branch.units next sent.now.entries strokes) }
+    ensures switched { IfOk result (λ next. S.units from.now ≡ S.units text.now → Leads (all_moves moved.now) (S.units from.now) chain.now.branch.branch.units
+        → AreInverses sent.now.entries moved.now.reverted (S.units text.now)
+        → (switched sent.now.entries moved.now (record { text = S.units text.now; work = work.now })).work.patch.before ≡ document_hash chain.now.branch.branch.units
+        → next ≡ (switched sent.now.entries moved.now (record { text = S.units text.now; work = work.now })).work) }
+{
+    let spare = empty_work(alloc, chain)?;
+    let back = moved.reverted.as_slice();
+    let on = moved.applied.as_slice();
+    if !is_same_text(from, text) {
+        return Ok(spare);
+    }
+    if !lead_to(alloc, back, on, from, chain.text(), steps)? {
+        return Ok(spare);
+    }
+    let mut next = work.copy(alloc)?;
+    bring_along(
+        alloc,
+        &mut next,
+        spare,
+        sent,
+        moved,
+        text.length(),
+        &chain.hash(),
+    )?;
+    Ok(next)
 }

@@ -9,6 +9,7 @@
 
 mod carrying;
 pub mod laws;
+mod leading;
 mod working_copy;
 
 pub use working_copy::WorkingCopy;

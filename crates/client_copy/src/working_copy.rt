@@ -14,6 +14,7 @@ ghost use Rattle.client_copy.specs.View.{StandsAs};
 mod adopting;
 mod making;
 mod receiving;
+mod repairing;
 
 use crate::carrying::{edit_work, has_text};
 use pad_chain::Chain;
