@@ -1,5 +1,6 @@
 -- The best branch: the chosen path from the root on, with its text.
-use Rattle.std.specs.Prelude.{◌≡◌, ℕ, ◌+◌, ◌-◌, ◌^◌, ◌<◌, ◌≤◌, List, [], ◌∷◌, ◌++◌, length, take, drop, map, reverse, Contains, Option, Some}
+use Rattle.std.specs.Prelude.{◌≡◌, ℕ, ◌+◌, ◌-◌, ◌^◌, ◌<◌, ◌≤◌, ◌⊎◌, List, [], ◌∷◌, ◌++◌, length, take, drop, map, reverse, Contains, Option, Some, vec_capacity}
+use Rattle.std.specs.Global.{Vec}
 use Rattle.pad_text.specs.declared.name.Name.{Name}
 use Rattle.pad_text.specs.Hash.{document_hash}
 use Rattle.pad_patch.specs.Piece.{text_after}
@@ -66,6 +67,10 @@ pub record CanSwitch (branch : State) (keep : ℕ) (new : List Undo) (units : Li
   pub keeps : keep ≤ length branch.undos
   pub rewinds : Rewinds branch.root branch.low (reverse (take keep branch.undos ++ new)) units
   pub few : branch.low + keep + length new + 1 < 2 ^ 64
+
+-- the list of those that stay, or that of the new ones, has memory for both; the first is told by how many undos it has memory for
+abbrev pub HasRoom : ℕ → ℕ → Vec Undo → Type 0
+HasRoom room keep new = (keep + length new.items ≤ room) ⊎ (keep + length new.items ≤ vec_capacity new)
 
 -- the message is sound on the text at the tip; it leads to the text `after`, and the undo takes it back
 pub record Grows (message : Message) (units : List ℕ) (tip : Tip) (undo : Undo) (after : List ℕ) : Type 0 where

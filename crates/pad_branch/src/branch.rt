@@ -17,7 +17,7 @@ ghost use Rattle.pad_branch.specs.Held.{IsHeldAs, HoldsKept};
 ghost use Rattle.pad_branch.specs.Pathless.{KnowsPathless, AreFound, pathless_in};
 ghost use Rattle.pad_branch.specs.Choice.{IsReady};
 ghost use Rattle.pad_branch.specs.Move.{move_back};
-ghost use Rattle.pad_branch.specs.Branch.{IsTrunk, IsWon, IsStopped, CanSwitch, LeadsTo, State, text_below, tip_of, height_of, switched, risen};
+ghost use Rattle.pad_branch.specs.Branch.{IsTrunk, IsWon, IsStopped, CanSwitch, HasRoom, LeadsTo, State, text_below, tip_of, height_of, switched, risen};
 
 use crate::candidates::better;
 use crate::choose::choose_best;
@@ -227,10 +227,27 @@ impl<S: UnitStore> Branch<S> {
         self.undos.reserve(more)
     }
 
+    /// Makes sure that there is memory to make this path the branch: in the longer one of the two lists of undos, so that these are
+    /// not there twice. Branch and path stay what they are.
+    pub fn make_room(&mut self, won: &mut Won<S>) -> Result<(), AllocError>
+        requires { won.old.keep ≤ length self.old.branch.undos }
+        ensures same { self.new.branch ≡ self.old.branch }
+        ensures keep { won.new.keep ≡ won.old.keep }
+        ensures undos { won.new.undos.items ≡ won.old.undos.items }
+        ensures text { won.new.text ≡ won.old.text }
+        ensures room { OnOk result (HasRoom self.new.room won.new.keep won.new.undos) }
+    {
+        if won.keep < won.undos.len() {
+            won.undos.reserve(won.keep)
+        } else {
+            self.undos.reserve(won.undos.len())
+        }
+    }
+
     /// Makes this path the branch. Those that leave it are added to `reverted`, the newest first. It takes no memory.
     pub fn switch_to(&mut self, won: Won<S>, reverted: &mut Vec<Move>)
         requires can { CanSwitch self.old.branch won.keep won.undos.items (S.units won.text) }
-        requires room { won.keep + length won.undos.items ≤ self.old.room }
+        requires room { HasRoom self.old.room won.keep won.undos }
         requires reserved { length self.old.branch.undos - won.keep ≤ vec_capacity reverted.old - vec_len reverted.old }
         ensures branch { self.new.branch ≡ switched self.old.branch won.keep won.undos.items (S.units won.text) }
         ensures reverted { reverted.new.items ≡ reverted.old.items ++ map move_back (take (length self.old.branch.undos - won.keep) (reverse self.old.branch.undos)) }

@@ -136,7 +136,7 @@ pub(crate) fn go_forward<S: UnitStore, L: Ledger>(
         → Rewinds root low (reverse trial.undos.items ++ under) (S.units trial.position.text))) }
 {
     let mut position = start;
-    let mut undos = Vec::new(alloc);
+    let mut undos = Vec::with_capacity(alloc, names.len())?;
     while let Some(name) = names.pop() {
         let Some(held) = messages.get(&name) else {
             return Ok(Err(name));

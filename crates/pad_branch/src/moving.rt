@@ -1,6 +1,6 @@
 //! The list of undos as the branch changes. None of this takes memory.
 
-ghost use Rattle.std.specs.Prelude.{◌≡◌, ◌-◌, ◌+◌, ◌≤◌, ◌++◌, length, take, drop, map, reverse, vec_len, vec_capacity};
+ghost use Rattle.std.specs.Prelude.{◌≡◌, ◌-◌, ◌+◌, ◌≤◌, ◌⊎◌, ◌++◌, length, take, drop, map, reverse, vec_len, vec_capacity};
 ghost use Rattle.pad_branch.specs.Move.{move_back};
 
 use crate::moved::Move;
@@ -26,13 +26,20 @@ pub(crate) fn unwind(undos: &mut Vec<Undo>, keep: usize, reverted: &mut Vec<Move
     }
 }
 
-/// Adds these undos, for which there is memory.
+/// Adds these undos. One of the two lists has memory for both.
 pub(crate) fn wind(undos: &mut Vec<Undo>, new: Vec<Undo>)
-    requires { vec_len undos.old + vec_len new ≤ vec_capacity undos.old }
+    requires { (vec_len undos.old + vec_len new ≤ vec_capacity undos.old) ⊎ (vec_len undos.old + vec_len new ≤ vec_capacity new) }
     ensures undos { undos.new.items ≡ undos.old.items ++ new.items }
 {
     let mut new = new;
-    let _ = undos.append(&mut new);
+    let many = undos.len();
+    if new.len() <= undos.capacity() - many {
+        let _ = undos.append(&mut new);
+        return;
+    }
+    let _ = new.append(undos);
+    new.rotate_right(many);
+    *undos = new;
 }
 
 /// Forgets the first so many undos.

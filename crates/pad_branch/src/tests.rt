@@ -95,12 +95,12 @@ fn chosen<L: Ledger>(alloc: Global, sound: bool, blank: Blank) -> Result<Branch<
         found: _found,
         pathless: _pathless,
     } = plan;
-    let Some(won) = won else {
+    let Some(mut won) = won else {
         return Ok(branch);
     };
     let mut left = Vec::new(alloc);
     left.reserve(branch.undos().len())?;
-    branch.reserve(won.undos.len())?;
+    branch.make_room(&mut won)?;
     branch.switch_to(won, &mut left);
     Ok(branch)
 }
