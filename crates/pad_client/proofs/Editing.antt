@@ -19,6 +19,7 @@ use Rattle.pad_client.specs.Refusal.{IsEditCause}
 use Rattle.pad_client.specs.Calls.{Edits}
 use Rattle.pad_client.specs.Inside.Refused.{is_edit_refused}
 use Rattle.pad_client.specs.View.{View, StandsAs}
+use Rattle.pad_client.proofs.Standing.{HasRest}
 
 pub edit_cause : (requests : requested.State) (shown : List ℕ) (operation : Operation) (cause : stroke.EditRefused) → repairs requests.asked ≡ false → IsCause shown operation cause
     → IsEditCause requests shown operation (is_edit_refused cause)
@@ -49,12 +50,12 @@ copy_edited held new copy operation stands same edits =
 
 -- the client stands for the state after the edit
 pub client_edited : (held new : View) (client : ClientState) (operation : Operation) → StandsAs held client → held.copy.pad.chain.branch.branch.units ≡ committed client.copy.pad
-    → repairs held.requests.asked ≡ false → copies.Edits held.copy.pad.chain.branch.branch.units held.copy operation new.copy → new.unreadable ≡ held.unreadable → new.requests ≡ held.requests
+    → repairs held.requests.asked ≡ false → copies.Edits held.copy.pad.chain.branch.branch.units held.copy operation new.copy → HasRest held new → new.requests ≡ held.requests
     → (after : ClientState) × Edits (committed client.copy.pad) client operation after × StandsAs new after
 unfolding copy_edited
-client_edited held new client operation stands same quiet edits count requests =
+client_edited held new client operation stands same quiet edits rest requests =
     let given = copy_edited held.copy new.copy client.copy operation stands.copy same edits in (
       record client { copy = given.0 },
       record { quiet = ap (λ (r : requested.State). repairs r.asked) (sym stands.requests) ∙ quiet; edited = given.0; edits = given.1; state = refl },
-      record { copy = given.2; unreadable = count ∙ stands.unreadable; requests = requests ∙ stands.requests },
+      record { copy = given.2; unreadable = rest.unreadable ∙ stands.unreadable; wanted = rest.wanted ∙ stands.wanted; requests = requests ∙ stands.requests; synced = rest.synced ∙ stands.synced },
     )

@@ -4,3 +4,5 @@ mod Addressed
 mod Editing
 mod Counting
 mod Reporting
+mod Sending
+mod Limits

@@ -7,8 +7,14 @@ use Rattle.pad_client.specs.State.{ClientState, with_requests}
 use Rattle.pad_client.specs.Hear.{HearsAbout, HearsReply, is_about}
 use Rattle.pad_client.specs.View.{View, StandsAs}
 
+-- what a call of the working copy leaves as it was, but for the requests
+pub record HasRest (held new : View) : Type 0 where
+  pub unreadable : new.unreadable ≡ held.unreadable
+  pub wanted : new.wanted ≡ held.wanted
+  pub synced : new.synced ≡ held.synced
+
 pub by_requests : (held : View) (client : ClientState) (requests : requested.State) → StandsAs held client → StandsAs (with_requests requests held) (with_requests requests client)
-by_requests held client requests stands = record { copy = stands.copy; unreadable = stands.unreadable; requests = refl }
+by_requests held client requests stands = record { copy = stands.copy; unreadable = stands.unreadable; wanted = stands.wanted; requests = refl; synced = stands.synced }
 
 -- so it does after a reply that brings no content
 pub about : (held new : View) (client : ClientState) (said : Reply) (answer : Heard) (requests : requested.State) → StandsAs held client → HearsAbout held.requests said answer requests

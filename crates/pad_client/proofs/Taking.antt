@@ -9,12 +9,12 @@ use Rattle.client_copy.specs.State.{Copy}
 use Rattle.client_copy.specs.Receive.{Follows}
 use Rattle.client_copy.specs.Adopt.{Adopts}
 use Rattle.client_copy.specs.View as copies
-use Rattle.client_requests.specs.State as requested
 use Rattle.pad_client.specs.declared.heard.Heard.{Heard}
 use Rattle.pad_client.specs.declared.heard.Heard.TheVariants as heard
 use Rattle.pad_client.specs.State.{ClientState}
 use Rattle.pad_client.specs.Content.{IsUnreadable, IsAdopted, MayBeAdopted, MeetsFull, after_content, after_message, HearsMessage, HearsContent, is_counted, is_message, becomes_base, is_received}
 use Rattle.pad_client.specs.View.{View, StandsAs}
+use Rattle.pad_client.proofs.Standing.{HasRest}
 
 capped : (held count : ℕ) → held ≡ min count (2 ^ 64 - 1) → min (held + 1) (2 ^ 64 - 1) ≡ min (count + 1) (2 ^ 64 - 1)
 capped held count is = omega (arith, is)
@@ -29,18 +29,22 @@ counted held new client entry content stands none is = (
   record {
     copy = subst (λ (v : copies.View). copies.StandsAs v client.copy) (sym (ap (λ (v : View). v.copy) is)) stands.copy;
     unreadable = ap (λ (v : View). v.unreadable) is ∙ capped held.unreadable client.unreadable stands.unreadable;
+    wanted = ap (λ (v : View). v.wanted) is ∙ stands.wanted;
     requests = ap (λ (v : View). v.requests) is ∙ ap (after_content entry) stands.requests;
+    synced = ap (λ (v : View). v.synced) is ∙ stands.synced;
   },
 )
 
 -- the working copy received or adopted a message
 pub taken : (held new : View) (client : ClientState) (copy : Copy) (entry : Bool) (message : Message) → StandsAs held client → copies.StandsAs new.copy copy
-    → new.unreadable ≡ held.unreadable → new.requests ≡ after_message entry message held.requests
+    → HasRest held new → new.requests ≡ after_message entry message held.requests
     → StandsAs new (record client { copy = copy; requests = after_message entry message client.requests })
-taken held new client copy entry message stands copy_stands count requests = record {
+taken held new client copy entry message stands copy_stands rest requests = record {
   copy = copy_stands;
-  unreadable = count ∙ stands.unreadable;
+  unreadable = rest.unreadable ∙ stands.unreadable;
+  wanted = rest.wanted ∙ stands.wanted;
   requests = requests ∙ ap (after_message entry message) stands.requests;
+  synced = rest.synced ∙ stands.synced;
 }
 
 -- a content that spells a message was heard as the message
@@ -74,11 +78,13 @@ pub gives_none : (client : ClientState) (entry : Bool) (message : Message) → (
 gives_none client entry message none adopted = none adopted.base adopted.gives
 
 -- a client whose working copy stands for what it stood for
-pub still : (held new : View) → copies.StandsStill held.copy new.copy → new.unreadable ≡ held.unreadable → new.requests ≡ held.requests → (client : ClientState) → StandsAs held client → StandsAs new client
-still held new copy_still count requests client stands = record {
+pub still : (held new : View) → copies.StandsStill held.copy new.copy → HasRest held new → new.requests ≡ held.requests → (client : ClientState) → StandsAs held client → StandsAs new client
+still held new copy_still rest requests client stands = record {
   copy = copy_still client.copy stands.copy;
-  unreadable = count ∙ stands.unreadable;
+  unreadable = rest.unreadable ∙ stands.unreadable;
+  wanted = rest.wanted ∙ stands.wanted;
   requests = requests ∙ stands.requests;
+  synced = rest.synced ∙ stands.synced;
 }
 
 -- an entry that may be adopted, and was

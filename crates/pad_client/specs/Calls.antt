@@ -1,5 +1,5 @@
--- An edit, which leaves pad and requests.
-use Rattle.std.specs.Prelude.{◌≡◌, false, List, ℕ}
+-- The calls that leave pad and requests.
+use Rattle.std.specs.Prelude.{◌≡◌, false, Some, List, ℕ}
 use Rattle.pad_patch.specs.declared.operation.Operation.{Operation}
 use Rattle.client_copy.specs.State as copies
 use Rattle.client_copy.specs.Calls as copy
@@ -12,3 +12,7 @@ pub record Edits {P W : Type 0} (text : List ℕ) (before : State (copies.State 
   pub edited : copies.State P W
   pub edits : copy.Edits text before.copy operation edited
   pub state : after ≡ record before { copy = edited }
+
+-- the interval of the next checkpoint is set
+abbrev pub with_interval : {C : Type 0} → ℕ → State C → State C
+with_interval interval client = record client { wanted = Some interval }

@@ -1,5 +1,6 @@
 -- The state of a client.
-use Rattle.std.specs.Prelude.{ℕ}
+use Rattle.std.specs.Prelude.{ℕ, Option, None, List, []}
+use Rattle.pad_branch.specs.declared.moved.Move.{Move}
 use Rattle.client_copy.specs.State as copies
 use Rattle.client_requests.specs.State as requested
 
@@ -8,8 +9,12 @@ pub record State (C : Type 0) : Type 0 where
   pub copy : C
   -- how many contents spelled no message
   pub unreadable : ℕ
+  -- the interval that the user set last and that no checkpoint has carried yet
+  pub wanted : Option ℕ
   -- what was requested, and what awaits its answer
   pub requests : requested.State
+  -- what the last sync that was not refused brought onto the best chain
+  pub synced : List Move
 
 -- the machine's state
 abbrev pub ClientState : Type 0
@@ -17,7 +22,7 @@ ClientState = State copies.Copy
 
 -- a new client
 abbrev pub new_client : ClientState
-new_client = record { copy = copies.new_copy; unreadable = 0; requests = requested.no_requests }
+new_client = record { copy = copies.new_copy; unreadable = 0; wanted = None; requests = requested.no_requests; synced = [] }
 
 -- the client with this for its requests: what touches them alone changes nothing else
 abbrev pub with_requests : {C : Type 0} → requested.State → State C → State C

@@ -15,7 +15,9 @@ View = State copies.View
 pub record StandsAs (held : View) (client : ClientState) : Type 0 where
   pub copy : copies.StandsAs held.copy client.copy
   pub unreadable : held.unreadable ≡ min client.unreadable (2 ^ 64 - 1)
+  pub wanted : held.wanted ≡ client.wanted
   pub requests : held.requests ≡ client.requests
+  pub synced : held.synced ≡ client.synced
 
 -- a client that refused stands for what it stood for
 abbrev pub StandsStill : View → View → Type 0

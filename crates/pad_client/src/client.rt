@@ -10,10 +10,13 @@ ghost use Rattle.pad_client.specs.View.{StandsAs};
 mod calls;
 mod content;
 mod hear;
+mod make;
 mod show;
+mod sync;
 
 use client_copy::WorkingCopy;
 use client_requests::Requests;
+use pad_chain::Moves;
 use pad_checkpoint::Place;
 use pad_patch::UnitStore;
 use pad_stroke::Work;
@@ -26,15 +29,21 @@ use std::marker::Model;
 pub struct Client<S: UnitStore> {
     copy: WorkingCopy<S>,
     unreadable: u64,
+    wanted: Option<u16>,
     requests: Requests,
+    synced: Moves,
 }
 
 impl<S: UnitStore> Model for Client<S> {
+    ghost use Rattle.std.specs.Prelude.{IfSome};
+    ghost use Rattle.pad_message.specs.Kind.{IsInterval};
     ghost use Rattle.pad_client.specs.View.{View};
 
     ghost Value = { View };
 
-    ghost view = { λ client. record { copy = client.copy; unreadable = client.unreadable; requests = client.requests } };
+    ghost view = { λ client. record { copy = client.copy; unreadable = client.unreadable; wanted = client.wanted; requests = client.requests; synced = client.synced } };
+
+    ghost invariant = { λ client. IfSome client.wanted IsInterval };
 }
 
 impl<S: UnitStore> Client<S> {
@@ -47,7 +56,9 @@ impl<S: UnitStore> Client<S> {
         Ok(Client {
             copy,
             unreadable: 0,
+            wanted: None,
             requests,
+            synced: Moves::new(Vec::new(alloc)),
         })
     }
 
@@ -99,5 +110,13 @@ impl<S: UnitStore> Client<S> {
         ensures { (client : ClientState) → StandsAs self.now client → result ≡ client.copy.pad.base.name }
     {
         self.copy.base()
+    }
+
+    /// Lends the messages that the last `sync` that was not refused brought onto the best chain, the oldest first, each with its
+    /// patch. There are none before the first.
+    pub fn synced(&self) -> &Moves
+        ensures { result.now ≡ self.now.synced }
+    {
+        &self.synced
     }
 }

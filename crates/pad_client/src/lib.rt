@@ -8,6 +8,7 @@
 //! let text = client.join(alloc, channel)?;            // to be sent
 //! let heard = client.hear(alloc, text, &mut steps)?;  // what the server said
 //! client.edit(alloc, op)?;                            // of the shown text
+//! let texts = client.sync(alloc, &mut steps)?;        // to be sent: own messages of the work
 //! ```
 #![tactic(auto)]
 
@@ -15,8 +16,10 @@ mod client;
 mod edit_refused;
 mod hear_refused;
 mod heard;
+mod sync_refused;
 
 pub use client::Client;
 pub use edit_refused::EditRefused;
 pub use hear_refused::HearRefused;
 pub use heard::Heard;
+pub use sync_refused::SyncRefused;

@@ -2,13 +2,14 @@
 
 ghost use Rattle.std.specs.Prelude.{◌≡◌, ◌<◌, ◌^◌, ◌-◌, IfOk, IfErr, OnOk, OnErr};
 ghost use Rattle.pad_patch.specs.Piece.{text_after};
+ghost use Rattle.pad_message.specs.Kind.{IsInterval};
 ghost use Rattle.client_copy.specs.Pad.{committed};
 ghost use Rattle.client_requests.specs.State as requested;
 ghost use Rattle.client_requests.specs.Refusal.{IsJoinCause, IsOpenCause, IsAskCause};
 ghost use Rattle.client_requests.specs.Calls.{Joins, Leaves, Asks, Resends, without_connection};
 ghost use Rattle.pad_client.specs.State.{ClientState, with_requests};
 ghost use Rattle.pad_client.specs.Refusal.{IsEditCause};
-ghost use Rattle.pad_client.specs.Calls.{Edits};
+ghost use Rattle.pad_client.specs.Calls.{Edits, with_interval};
 ghost use Rattle.pad_client.specs.View.{StandsAs};
 
 use crate::client::Client;
@@ -83,5 +84,13 @@ impl<S: UnitStore> Client<S> {
         let _units = self.copy.text();
         self.copy.edit(alloc, op)?;
         Ok(())
+    }
+
+    /// Sets the interval that the next checkpoint of this client has, in messages.
+    pub fn set_interval(&mut self, interval: u16)
+        requires { IsInterval interval }
+        ensures { self.new ≡ with_interval interval self.old }
+    {
+        self.wanted = Some(interval);
     }
 }

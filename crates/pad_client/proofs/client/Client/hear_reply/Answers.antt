@@ -10,7 +10,7 @@ use Rattle.pad_client.proofs.client.Client.hear_reply.Goals as goal
 pub returns-in-Ident-clause-hears : goal.returns-in-Ident-clause-hears
 returns-in-Ident-clause-hears g c client stands differs =
     let i = c.self.inside in
-    let held : View = record { copy = i.copy; unreadable = i.unreadable; requests = i.requests } in
+    let held : View = record { copy = i.copy; unreadable = i.unreadable; wanted = i.wanted; requests = i.requests; synced = i.synced } in
     about held (record held { requests = c.hear_id.new.self }) client c.args.reply heard.Ident c.hear_id.new.self (subst (λ (v : View). StandsAs v client) (sym c.self.view_is) stands) (rw c.in-Ident.is (refl, c.hear_id.ensures)) refl
 
 pub returns-in-Ident-clause-last : goal.returns-in-Ident-clause-last
@@ -19,7 +19,7 @@ returns-in-Ident-clause-last g c = about_last c.self.inside.requests c.args.repl
 pub returns-in-Error-clause-hears : goal.returns-in-Error-clause-hears
 returns-in-Error-clause-hears g c client stands differs =
     let i = c.self-in-Error.inside in
-    let held : View = record { copy = i.copy; unreadable = i.unreadable; requests = i.requests } in
+    let held : View = record { copy = i.copy; unreadable = i.unreadable; wanted = i.wanted; requests = i.requests; synced = i.synced } in
     about held (record held { requests = c.forget.new.self }) client c.args.reply (heard.Error c.in-Error.number c.in-Error.word) c.forget.new.self (subst (λ (v : View). StandsAs v client) (sym c.self-in-Error.view_is) stands) (rw c.in-Error.is (refl, c.forget.ensures)) refl
 
 pub returns-in-Error-clause-last : goal.returns-in-Error-clause-last
@@ -28,7 +28,7 @@ returns-in-Error-clause-last g c = about_last c.self-in-Error.inside.requests c.
 pub returns-in-Member-clause-hears : goal.returns-in-Member-clause-hears
 returns-in-Member-clause-hears g c client stands differs =
     let i = c.self-in-Member.inside in
-    let held : View = record { copy = i.copy; unreadable = i.unreadable; requests = i.requests } in
+    let held : View = record { copy = i.copy; unreadable = i.unreadable; wanted = i.wanted; requests = i.requests; synced = i.synced } in
     about held (record held { requests = c.hear_who.new.requests }) client c.args.reply c.hear_who.result c.hear_who.new.requests (subst (λ (v : View). StandsAs v client) (sym c.self-in-Member.view_is) stands) (rw c.in-Member.is c.hear_who.ensures) refl
 
 pub returns-in-Member-clause-last : goal.returns-in-Member-clause-last
@@ -37,7 +37,7 @@ returns-in-Member-clause-last g c = about_last c.self-in-Member.inside.requests 
 pub returns-in-Ack-clause-hears : goal.returns-in-Ack-clause-hears
 returns-in-Ack-clause-hears g c client stands differs =
     let i = c.self-in-Ack.inside in
-    let held : View = record { copy = i.copy; unreadable = i.unreadable; requests = i.requests } in
+    let held : View = record { copy = i.copy; unreadable = i.unreadable; wanted = i.wanted; requests = i.requests; synced = i.synced } in
     about held (record held { requests = c.hear_acked.new.requests }) client c.args.reply c.hear_acked.result c.hear_acked.new.requests (subst (λ (v : View). StandsAs v client) (sym c.self-in-Ack.view_is) stands) (rw c.in-Ack.is c.hear_acked.ensures) refl
 
 pub returns-in-Ack-clause-last : goal.returns-in-Ack-clause-last
@@ -46,7 +46,7 @@ returns-in-Ack-clause-last g c = about_last c.self-in-Ack.inside.requests c.args
 pub returns-in-HistoryEnd-clause-hears : goal.returns-in-HistoryEnd-clause-hears
 returns-in-HistoryEnd-clause-hears g c client stands differs =
     let i = c.self-in-HistoryEnd.inside in
-    let held : View = record { copy = i.copy; unreadable = i.unreadable; requests = i.requests } in
+    let held : View = record { copy = i.copy; unreadable = i.unreadable; wanted = i.wanted; requests = i.requests; synced = i.synced } in
     about held (record held { requests = c.hear_end.new.requests }) client c.args.reply c.hear_end.result c.hear_end.new.requests (subst (λ (v : View). StandsAs v client) (sym c.self-in-HistoryEnd.view_is) stands) (rw c.in-HistoryEnd.is c.hear_end.ensures) refl
 
 pub returns-in-HistoryEnd-clause-last : goal.returns-in-HistoryEnd-clause-last
@@ -55,7 +55,7 @@ returns-in-HistoryEnd-clause-last g c = about_last c.self-in-HistoryEnd.inside.r
 pub returns-in-HistoryUnknown-clause-hears : goal.returns-in-HistoryUnknown-clause-hears
 returns-in-HistoryUnknown-clause-hears g c client stands differs =
     let i = c.self-in-HistoryUnknown.inside in
-    let held : View = record { copy = i.copy; unreadable = i.unreadable; requests = i.requests } in
+    let held : View = record { copy = i.copy; unreadable = i.unreadable; wanted = i.wanted; requests = i.requests; synced = i.synced } in
     about held (record held { requests = c.hear_unknown.new.requests }) client c.args.reply c.hear_unknown.result c.hear_unknown.new.requests (subst (λ (v : View). StandsAs v client) (sym c.self-in-HistoryUnknown.view_is) stands) (rw c.in-HistoryUnknown.is c.hear_unknown.ensures) refl
 
 pub returns-in-HistoryUnknown-clause-last : goal.returns-in-HistoryUnknown-clause-last
