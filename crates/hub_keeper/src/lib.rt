@@ -14,3 +14,6 @@ mod laws;
 
 pub use hub_keeper::HubKeeper;
 pub use laws::{logs_are_apart, logs_are_of_files};
+
+#[cfg(test)]
+mod tests;
