@@ -1,3 +1,4 @@
 pub mod Grounds
 pub mod Loops
 pub mod Parts
+pub mod Typing

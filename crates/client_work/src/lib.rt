@@ -10,3 +10,6 @@ mod carrying;
 mod stepping;
 
 pub use carrying::carry;
+
+#[cfg(test)]
+mod tests;
