@@ -23,3 +23,6 @@ pub use edit_refused::EditRefused;
 pub use hear_refused::HearRefused;
 pub use heard::Heard;
 pub use sync_refused::SyncRefused;
+
+#[cfg(test)]
+mod tests;
