@@ -1,4 +1,4 @@
-ghost use Rattle.std.specs.Prelude.{◌≡◌, ◌==◌, ◌<◌, [], ◌∷◌, length, position, MatchOption, IfSome};
+ghost use Rattle.std.specs.Prelude.{◌≡◌, ◌==◌, ◌<◌, ◌-◌, [], ◌∷◌, length, drop, position, MatchOption, IfSome};
 ghost use Rattle.pad_lines.specs.Line.{newline, lines_of};
 
 /// The first line of a text, without what ends it, and the text after it. None of an empty text.
@@ -6,6 +6,7 @@ pub fn split_line(text: &[u8]) -> Option<(&[u8], &[u8])>
     ensures lines { MatchOption result (lines_of text.now ≡ [])
         (λ split. lines_of text.now ≡ split.0.now ∷ lines_of split.1.now) }
     ensures shorter { IfSome result (λ split. length split.1.now < length text.now) }
+    ensures end { IfSome result (λ split. split.1.now ≡ drop (length text.now - length split.1.now) text.now) }
 {
     match line_end(text) {
         Some(end) => Some((&text[..end], &text[end + 1..])),

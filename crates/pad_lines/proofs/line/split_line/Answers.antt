@@ -15,3 +15,11 @@ returns-in-Some-clause-lines c =
 
 pub returns-in-None-2-clause-lines : goal.returns-in-None-2-clause-lines
 returns-in-None-2-clause-lines c = lines_of-whole c.args.text.now (grind (arith, nat_tests, c.if-is_empty.ensures)) c.in-None-2.ensures.first
+
+pub returns-in-Some-clause-end : goal.returns-in-Some-clause-end
+returns-in-Some-clause-end c =
+    let text = c.args.text.now in
+    let end = c.in-Some.end in
+    let all : take (length text - (end + 1)) (drop (end + 1) text) ≡ drop (end + 1) text = take_all _ _ (omega (arith, length-drop (end + 1) text)) in
+    let size : length text - length (drop (end + 1) text) ≡ end + 1 = omega (arith, length-drop (end + 1) text, c.in-Some.ensures.within) in
+    all ∙ ap (λ n. drop n text) (sym size) ∙ ap (λ after. drop (length text - length after) text) (sym all)
