@@ -36,4 +36,5 @@ mod Leading
 mod Handing
 mod Knowing
 mod Ground
+mod Meaning
 mod Depth

@@ -100,6 +100,12 @@ Switches now new names found keep come units moved =
     (before : View) (base : Base) (received : List Message) (message : Message) (choice : Choice) (linkings : List Linking) (path : List Message) → (out : IsFoundOut before now base received message choice linkings names found)
     → IsBestThrough base (message ∷ received) choice.root (path ++ choice.root) → IsWon base (message ∷ received) choice.root out.joining.adding.stood.above path now.branch.branch (held_of now) keep come units → IsReceived before new base received message choice moved
 
+-- ---- what is told of the moves
+
+-- The moves of which this holds are those that are told, if they are to be told.
+abbrev pub Meant : Bool → Moved → (Moved → Type 0) → Type 0
+Meant tell told Holds = (moved : Moved) × (tell ≡ true → moved ≡ told) × Holds moved
+
 -- ---- what a step does, whatever the chain stands for
 
 -- nothing left the chosen path, and nothing came onto it

@@ -1,6 +1,7 @@
 //! A message that comes.
 
-ghost use Rattle.std.specs.Prelude.{◌≡◌, ◌≤◌, ◌+◌, ◌-◌, ◌*◌, ℕ, List, ◌∷◌, ◌++◌, length, take, reverse, vec_len, vec_capacity, IfOk, IfErr, OnOk, OnErr, Some, None, Err};
+ghost use Rattle.std.specs.Prelude.{◌≡◌, ◌≤◌, ◌+◌, ◌-◌, ◌*◌, ℕ, List, ◌∷◌, ◌++◌, length, take, map, reverse, vec_len, vec_capacity, IfOk, IfErr, IfSome, OnOk, OnErr, Some, None, Err, true};
+ghost use Rattle.std.specs.BTreeMap.{get};
 ghost use Rattle.pad_text.specs.declared.name.Name.{Name};
 ghost use Rattle.pad_message.specs.Content.{most_operations};
 ghost use Rattle.pad_message.specs.declared.message.Message.{Message};
@@ -12,12 +13,16 @@ ghost use Rattle.pad_graph.specs.declared.added.Added.TheVariants.{Waiting, Belo
 ghost use Rattle.pad_graph.specs.Chain.{Link};
 ghost use Rattle.pad_graph.specs.Graph.{Stands};
 ghost use Rattle.pad_graph.specs.State as graph;
-ghost use Rattle.pad_graph.specs.State.{last_added, state_of};
+ghost use Rattle.pad_graph.specs.State.{name_cmp, last_added, state_of};
 ghost use Rattle.pad_model.specs.declared.base.Base.{Base};
 ghost use Rattle.pad_model.specs.Path.{NamesDiffer};
 ghost use Rattle.pad_model.specs.Choice.{Choice};
 ghost use Rattle.pad_branch.specs.Tip.{tip_after};
+ghost use Rattle.pad_branch.specs.Undo.{undone_name};
+ghost use Rattle.pad_branch.specs.Held.{IsHeldAs, messages_at};
+ghost use Rattle.pad_branch.specs.Move.{move_on};
 ghost use Rattle.pad_branch.specs.Branch.{CanSwitch, LeadsTo, text_below, tip_of, height_of};
+ghost use Rattle.pad_chain.specs.declared.moved.Moved.{Moved};
 ghost use Rattle.pad_chain.specs.declared.receive_refused.ReceiveRefused.TheVariants.{Full};
 ghost use Rattle.pad_chain.specs.State.{held_of};
 ghost use Rattle.pad_chain.specs.Tie.{StandsFor};
@@ -25,7 +30,7 @@ ghost use Rattle.pad_chain.specs.Leads.{Leads};
 ghost use Rattle.pad_chain.specs.Receive.{IsReceived, KeepsFound, KeepsBranch, KeepsHeld, KeepsStands, IsUntouched, IsWithin};
 ghost use Rattle.pad_chain.specs.Knows.{Knows, IsFull};
 ghost use Rattle.pad_chain.specs.Inside.Tables.{IsPut};
-ghost use Rattle.pad_chain.specs.Inside.Receiving.{KeepsNames, UndoesName, Receives, Refuses, TakesOn, Stays, Switches, MovesNothing, LeadsOn, IsFirst, Costs};
+ghost use Rattle.pad_chain.specs.Inside.Receiving.{KeepsNames, UndoesName, Receives, Refuses, TakesOn, Stays, Switches, MovesNothing, Meant, LeadsOn, IsFirst, Costs};
 
 use crate::chain::Chain;
 use crate::moved::{Moved, Moves};
@@ -33,8 +38,8 @@ use crate::receive_refused::ReceiveRefused;
 use crate::settling::{rise, settle};
 use crate::tables::{has_mark, hold_added, knows_few, let_go, mark_all, note};
 use pad_branch::{
-    Branch, Plan, Won, applied, found_above, found_stays, known_above, marks_pass, root_stays,
-    stays_known, trunk_stays,
+    Branch, Held, Move, Plan, Undo, Won, applied, found_above, found_stays, known_above,
+    marks_pass, root_stays, stays_known, trunk_stays,
 };
 use pad_checkpoint::{Place, roots_rise_to_cuts_above};
 use pad_graph::{Added, Linking, Linkings};
@@ -45,7 +50,7 @@ use pad_model::{
 use pad_patch::{Steps, UnitStore};
 use pad_text::Name;
 use std::alloc::{AllocError, Global};
-use std::collections::BTreeSet;
+use std::collections::{BTreeMap, BTreeSet};
 use std::sync::ledger::Ledger;
 
 /// Where a branch ends.
@@ -65,6 +70,23 @@ fn add_found(found: &mut Vec<Name>, more: Vec<Name>)
 {
     let mut more = more;
     let _ = found.append(&mut more);
+}
+
+/// The moves of the messages that come on, if they are to be told. Else there are none.
+fn told_on(
+    alloc: Global,
+    messages: &BTreeMap<Name, Held>,
+    undos: &[Undo],
+    tell: bool,
+) -> Result<Vec<Move>, AllocError>
+    requires held { (name : Name) → IfSome (get name_cmp messages.now name) (IsHeldAs name) }
+    ensures { IfOk result (λ moves. tell ≡ true → moves.items ≡ map move_on (messages_at (get name_cmp messages.now) (map undone_name undos.now))) }
+{
+    if tell {
+        applied(alloc, messages, undos)
+    } else {
+        Ok(Vec::new(alloc))
+    }
 }
 
 impl<S: UnitStore> Chain<S> {
@@ -135,33 +157,66 @@ impl<S: UnitStore> Chain<S> {
             → length self.new.found ≡ length self.old.found + rise → steps.new ≤ steps.old + 3 * depth * (rise + 1)) }
         ensures unstepped { IfErr result (λ refused. refused ≡ Full → steps.new ≡ steps.old) }
     {
-        self.take_in(alloc, name, message, steps)
+        self.take_in(alloc, name, message, steps, true)
     }
 
-    /// Adds a message to the graph, and does what follows of it.
+    /// The same as `receive`, but the moves are not told, and no patch is copied for them.
+    pub fn receive_without_moves<L: Ledger>(
+        &mut self,
+        alloc: Global,
+        message: Message,
+        steps: &mut Steps<L>,
+    ) -> Result<(), ReceiveRefused>
+        requires few { length message.patch.ops ≤ most_operations }
+        requires interval { HasInterval message.kind }
+        ensures stands { OnOk result ((base : Base) (received : List Message) (choice : Choice) → NamesDiffer (message ∷ received) → StandsFor self.old base received choice → (moved : Moved) × IsReceived self.old self.new base received message choice moved) }
+        ensures refused { OnErr result ((base : Base) (received : List Message) (choice : Choice) → StandsFor self.old base received choice → StandsFor self.new base received choice) }
+        ensures whole { self.new.whole ≡ self.old.whole }
+        ensures knows { OnOk result ((base : Base) (received : List Message) → Knows self.old base received → Knows self.new base (message ∷ received)) }
+        ensures knows_still { OnErr result ((base : Base) (received : List Message) → Knows self.old base received → Knows self.new base received) }
+        ensures full { IfErr result (λ refused. refused ≡ Full → (graph.standing (state_of self.old.graph) (name_of message) ≡ Unknown) × (self.old.graph.known ≡ MOST_NAMES)) }
+        ensures limit { IfErr result (λ refused. refused ≡ Full → (base : Base) (received : List Message) → Knows self.old base received → IsFull base received message) }
+        ensures kept { OnOk result (KeepsFound self.old self.new) }
+        ensures same { OnErr result (KeepsBranch self.old self.new) }
+        ensures held { OnErr result (KeepsHeld self.old self.new (name_of message)) }
+        ensures links { OnErr result (KeepsStands self.old self.new) }
+        ensures untouched { IfErr result (λ refused. refused ≡ Full → IsUntouched self.old self.new) }
+        ensures cost { OnOk result ((base : Base) (received : List Message) (choice : Choice) (depth rise : ℕ) → StandsFor self.old base received choice → IsWithin base (message ∷ received) choice.root depth
+            → length self.new.found ≡ length self.old.found + rise → steps.new ≤ steps.old + 3 * depth * (rise + 1)) }
+        ensures unstepped { IfErr result (λ refused. refused ≡ Full → steps.new ≡ steps.old) }
+    {
+        let name = message.name(alloc)?;
+        match self.take_in(alloc, name, message, steps, false) {
+            Ok(_) => Ok(()),
+            Err(refused) => Err(refused),
+        }
+    }
+
+    /// Adds a message to the graph, and does what follows of it. It tells the moves only if it is to tell them.
     fn take_in<L: Ledger>(
         &mut self,
         alloc: Global,
         name: Name,
         message: Message,
         steps: &mut Steps<L>,
+        tell: bool,
     ) -> Result<Moved, ReceiveRefused>
         requires named { name ≡ name_of message }
         requires interval { HasInterval message.kind }
-        ensures stands { IfOk result (λ moved. (base : Base) (received : List Message) (choice : Choice) → NamesDiffer (message ∷ received) → StandsFor self.old base received choice → IsReceived self.old self.new base received message choice moved) }
+        ensures stands { IfOk result (λ told. Meant tell told (λ moved. (base : Base) (received : List Message) (choice : Choice) → NamesDiffer (message ∷ received) → StandsFor self.old base received choice → IsReceived self.old self.new base received message choice moved)) }
         ensures refused { OnErr result ((base : Base) (received : List Message) (choice : Choice) → StandsFor self.old base received choice → StandsFor self.new base received choice) }
         ensures whole { self.new.whole ≡ self.old.whole }
         ensures knows { OnOk result ((base : Base) (received : List Message) → Knows self.old base received → Knows self.new base (message ∷ received)) }
         ensures knows_still { OnErr result ((base : Base) (received : List Message) → Knows self.old base received → Knows self.new base received) }
         ensures full { IfErr result (λ refused. refused ≡ Full → (graph.standing (state_of self.old.graph) name ≡ Unknown) × (self.old.graph.known ≡ MOST_NAMES)) }
         ensures room { graph.standing (state_of self.old.graph) name ≡ Unknown → self.old.graph.known ≡ MOST_NAMES → result ≡ Err Full }
-        ensures leads { IfOk result (λ moved. Leads (moved.reverted ++ moved.applied) self.old.branch.branch.units self.new.branch.branch.units) }
+        ensures leads { IfOk result (λ told. Meant tell told (LeadsOn self.old self.new)) }
         ensures kept { OnOk result (KeepsFound self.old self.new) }
         ensures same { OnErr result (KeepsBranch self.old self.new) }
         ensures held { OnErr result (KeepsHeld self.old self.new name) }
         ensures links { OnErr result (KeepsStands self.old self.new) }
         ensures untouched { IfErr result (λ refused. refused ≡ Full → IsUntouched self.old self.new) }
-        ensures first { IfOk result (λ moved. length self.new.found ≡ length self.old.found → steps.new ≤ steps.old + length moved.reverted + 2 * length moved.applied) }
+        ensures first { IfOk result (λ told. Meant tell told (λ moved. IsFirst self.old self.new moved steps.old steps.new)) }
         ensures cost { OnOk result ((base : Base) (received : List Message) (choice : Choice) (depth rise : ℕ) → StandsFor self.old base received choice → IsWithin base (message ∷ received) choice.root depth
             → length self.new.found ≡ length self.old.found + rise → steps.new ≤ steps.old + 3 * depth * (rise + 1)) }
         ensures unstepped { IfErr result (λ refused. refused ≡ Full → steps.new ≡ steps.old) }
@@ -179,7 +234,7 @@ impl<S: UnitStore> Chain<S> {
             }
             Added::Below(below) => Ok(self.pass_below(alloc, &below)),
             Added::Linked(linkings) => {
-                let moved = self.join(alloc, name, message, linkings.as_slice(), steps)?;
+                let moved = self.join(alloc, name, message, linkings.as_slice(), steps, tell)?;
                 Ok(moved)
             }
         }
@@ -235,20 +290,21 @@ impl<S: UnitStore> Chain<S> {
         message: Message,
         linkings: &[Linking],
         steps: &mut Steps<L>,
+        tell: bool,
     ) -> Result<Moved, AllocError>
         requires named { name ≡ name_of message }
         requires interval { HasInterval message.kind }
         requires added { last_added (state_of self.old.graph) ≡ Some name }
-        ensures received { IfOk result (Receives self.old self.new message (Linked linkings.now)) }
+        ensures received { IfOk result (λ told. Meant tell told (Receives self.old self.new message (Linked linkings.now))) }
         ensures refused { OnErr result (Refuses self.old self.new message (Linked linkings.now)) }
         ensures links { OnOk result (KeepsNames self.old self.new) }
         ensures undone { OnErr result (UndoesName self.old self.new) }
         ensures whole { self.new.whole ≡ self.old.whole }
-        ensures leads { IfOk result (LeadsOn self.old self.new) }
+        ensures leads { IfOk result (λ told. Meant tell told (LeadsOn self.old self.new)) }
         ensures kept { OnOk result (KeepsFound self.old self.new) }
         ensures same { OnErr result (KeepsBranch self.old self.new) }
         ensures held { OnErr result (KeepsHeld self.old self.new name) }
-        ensures first { IfOk result (λ moved. IsFirst self.old self.new moved steps.old steps.new) }
+        ensures first { IfOk result (λ told. Meant tell told (λ moved. IsFirst self.old self.new moved steps.old steps.new)) }
         ensures cost { OnOk result (Costs self.old self.new linkings.now steps.old steps.new) }
     {
         best_through_its_root();
@@ -263,7 +319,7 @@ impl<S: UnitStore> Chain<S> {
             mark_all(&mut self.messages, linkings);
             return Ok(Moved::none(alloc));
         }
-        match self.take_on(alloc, linkings, steps) {
+        match self.take_on(alloc, linkings, steps, tell) {
             Ok(moved) => Ok(moved),
             Err(error) => {
                 self.take_back(&name);
@@ -290,14 +346,15 @@ impl<S: UnitStore> Chain<S> {
         alloc: Global,
         linkings: &[Linking],
         steps: &mut Steps<L>,
+        tell: bool,
     ) -> Result<Moved, AllocError>
-        ensures received { IfOk result (TakesOn self.old self.new linkings.now) }
+        ensures received { IfOk result (λ told. Meant tell told (TakesOn self.old self.new linkings.now)) }
         ensures links { OnOk result (KeepsNames self.old self.new) }
         ensures untouched { OnErr result (IsUntouched self.old self.new) }
         ensures whole { self.new.whole ≡ self.old.whole }
-        ensures leads { IfOk result (LeadsOn self.old self.new) }
+        ensures leads { IfOk result (λ told. Meant tell told (LeadsOn self.old self.new)) }
         ensures kept { OnOk result (KeepsFound self.old self.new) }
-        ensures first { IfOk result (λ moved. IsFirst self.old self.new moved steps.old steps.new) }
+        ensures first { IfOk result (λ told. Meant tell told (λ moved. IsFirst self.old self.new moved steps.old steps.new)) }
         ensures cost { OnOk result (Costs self.old self.new linkings.now steps.old steps.new) }
     {
         best_through_its_root();
@@ -313,7 +370,7 @@ impl<S: UnitStore> Chain<S> {
             pathless,
         } = plan;
         match won {
-            Some(won) => self.switch(alloc, won, pathless, found),
+            Some(won) => self.switch(alloc, won, pathless, found, tell),
             None => self.stay(alloc, pathless, found),
         }
     }
@@ -347,15 +404,16 @@ impl<S: UnitStore> Chain<S> {
         won: Won<S>,
         pathless: BTreeSet<Name>,
         found: Vec<Name>,
+        tell: bool,
     ) -> Result<Moved, AllocError>
         requires can { CanSwitch self.old.branch.branch won.keep won.undos.items (S.units won.text) }
         requires leads { LeadsTo (held_of self.old) (text_below self.old.branch.branch won.keep) (tip_after self.old.branch.branch.root (reverse (take won.keep self.old.branch.branch.undos))) (reverse won.undos.items) (S.units won.text) }
-        ensures received { IfOk result (Switches self.old self.new pathless (reverse found.items) won.keep won.undos.items (S.units won.text)) }
+        ensures received { IfOk result (λ told. Meant tell told (Switches self.old self.new pathless (reverse found.items) won.keep won.undos.items (S.units won.text))) }
         ensures links { OnOk result (KeepsNames self.old self.new) }
         ensures untouched { OnErr result (IsUntouched self.old self.new) }
         ensures whole { self.new.whole ≡ self.old.whole }
-        ensures leads { IfOk result (LeadsOn self.old self.new) }
-        ensures many { IfOk result (λ moved. (length moved.reverted ≡ length self.old.branch.branch.undos - won.keep) × (length moved.applied ≡ length won.undos.items)) }
+        ensures leads { IfOk result (λ told. Meant tell told (LeadsOn self.old self.new)) }
+        ensures many { IfOk result (λ told. Meant tell told (λ moved. (length moved.reverted ≡ length self.old.branch.branch.undos - won.keep) × (length moved.applied ≡ length won.undos.items))) }
         ensures found { OnOk result (self.new.found ≡ reverse found.items ++ self.old.found) }
     {
         repeat_changes_no_choice();
@@ -363,10 +421,11 @@ impl<S: UnitStore> Chain<S> {
         roots_rise_to_cuts_above();
         known_above();
         found_above();
-        let comes = applied(alloc, &self.messages, won.undos.as_slice())?;
+        let comes = told_on(alloc, &self.messages, won.undos.as_slice(), tell)?;
         let mut leaves = Vec::new(alloc);
         leaves.reserve(self.branch.undos().len() - won.keep)?;
-        self.branch.reserve(won.undos.len())?;
+        let mut won = won;
+        self.branch.make_room(&mut won)?;
         self.found.reserve(found.len())?;
         settle(
             alloc,

@@ -43,12 +43,15 @@ returns-then-has_mark-clause-received g c =
     let old : View = record { graph = i.graph; pruning = i.pruning; messages = i.messages.entries; branch = i.branch; found = reverse i.found.items; whole = i.whole } in
     let mid : View = record old { graph = c.hold_added.new.graph; messages = c.hold_added.new.messages.entries } in
     let new : View = record mid { messages = c.mark_all.new.messages.entries } in
-    let put : IsPut (held_of old) (held_of mid) (name_of m) (Some (record { message = m; pathless = false })) = subst (λ n. IsPut (held_of old) (held_of mid) n (Some (record { message = m; pathless = false }))) c.requires.named c.in_ok-hold_added.ensures.held in
-    subst (λ (v : View). Receives v new m (Linked ls) c.none.result) c.self.view_is
-    (λ before b R choice d a.
-    let j : IsJoining (record old { graph = before }) mid b R m choice ls = record { adding = adding_on (record old { graph = before }) b R m choice old mid (Linked ls) c.in_ok-hold_added.ensures.graph a; differ = d; put = put; pruning = refl; branch = refl; found = refl; whole = refl } in
-    marked_received (record old { graph = before }) mid b R m choice ls j c.repeat_changes_no_choice.ensures c.best_through_its_root.ensures c.only_new_paths.ensures c.found_stays.ensures c.trunk_stays.ensures c.marks_pass.ensures
-    (same_mark (record old { graph = before }) b R m choice mid ls true j (sym c.if-has_mark.true ∙ c.has_mark.ensures)) new c.none.result c.mark_all.ensures refl refl refl refl refl c.none.ensures.reverted c.none.ensures.applied)
+    let put : IsPut (held_of old) (held_of mid) (name_of m) (Some (record { message = m; pathless = false })) = subst (λ n. IsPut (held_of old) (held_of mid) n (Some (record { message = m; pathless = false }))) c.requires.named c.in_ok-hold_added.ensures.held in (
+      c.none.result,
+      λ _. refl,
+      subst (λ (v : View). Receives v new m (Linked ls) c.none.result) c.self.view_is
+          (λ before b R choice d a.
+          let j : IsJoining (record old { graph = before }) mid b R m choice ls = record { adding = adding_on (record old { graph = before }) b R m choice old mid (Linked ls) c.in_ok-hold_added.ensures.graph a; differ = d; put = put; pruning = refl; branch = refl; found = refl; whole = refl } in
+          marked_received (record old { graph = before }) mid b R m choice ls j c.repeat_changes_no_choice.ensures c.best_through_its_root.ensures c.only_new_paths.ensures c.found_stays.ensures c.trunk_stays.ensures c.marks_pass.ensures
+          (same_mark (record old { graph = before }) b R m choice mid ls true j (sym c.if-has_mark.true ∙ c.has_mark.ensures)) new c.none.result c.mark_all.ensures refl refl refl refl refl c.none.ensures.reverted c.none.ensures.applied),
+    )
 
 pub returns-in-Ok-clause-received : goal.returns-in-Ok-clause-received
 returns-in-Ok-clause-received g c =
@@ -58,10 +61,14 @@ returns-in-Ok-clause-received g c =
     let old : View = record { graph = i.graph; pruning = i.pruning; messages = i.messages.entries; branch = i.branch; found = reverse i.found.items; whole = i.whole } in
     let mid : View = record old { graph = c.hold_added.new.graph; messages = c.hold_added.new.messages.entries } in
     let put : IsPut (held_of old) (held_of mid) (name_of m) (Some (record { message = m; pathless = false })) = subst (λ n. IsPut (held_of old) (held_of mid) n (Some (record { message = m; pathless = false }))) c.requires.named c.in_ok-hold_added.ensures.held in
-    subst (λ (v : View). Receives v c.take_on.new.self m (Linked ls) c.in-Ok.moved) c.self.view_is
-    (λ before b R choice d a.
-    let j : IsJoining (record old { graph = before }) mid b R m choice ls = record { adding = adding_on (record old { graph = before }) b R m choice old mid (Linked ls) c.in_ok-hold_added.ensures.graph a; differ = d; put = put; pruning = refl; branch = refl; found = refl; whole = refl } in
-    c.in-Ok.ensures.received (record old { graph = before }) b R m choice j (same_mark (record old { graph = before }) b R m choice mid ls false j (sym c.if-has_mark.false ∙ c.has_mark.ensures)))
+    let h = c.in-Ok.ensures.received in (
+      h.0,
+      h.1,
+      subst (λ (v : View). Receives v c.take_on.new.self m (Linked ls) h.0) c.self.view_is
+          (λ before b R choice d a.
+          let j : IsJoining (record old { graph = before }) mid b R m choice ls = record { adding = adding_on (record old { graph = before }) b R m choice old mid (Linked ls) c.in_ok-hold_added.ensures.graph a; differ = d; put = put; pruning = refl; branch = refl; found = refl; whole = refl } in
+          h.2 (record old { graph = before }) b R m choice j (same_mark (record old { graph = before }) b R m choice mid ls false j (sym c.if-has_mark.false ∙ c.has_mark.ensures))),
+    )
 
 pub returns-in-Err-clause-refused : goal.returns-in-Err-clause-refused
 returns-in-Err-clause-refused g c =
@@ -115,25 +122,25 @@ returns-in_err-hold_added-clause-same g c =
 
 pub returns-then-has_mark-clause-leads : goal.returns-then-has_mark-clause-leads
 returns-then-has_mark-clause-leads g c =
-    none_leads c.none.result c.args.self.now.branch.branch.units c.self.inside.branch.branch.units (record { left = c.none.ensures.reverted; came = c.none.ensures.applied }) (sym (ap (λ (v : View). v.branch.branch.units) c.self.view_is))
+    (c.none.result, λ _. refl, none_leads c.none.result c.args.self.now.branch.branch.units c.self.inside.branch.branch.units (record { left = c.none.ensures.reverted; came = c.none.ensures.applied }) (sym (ap (λ (v : View). v.branch.branch.units) c.self.view_is)))
 
 pub returns-then-has_mark-clause-kept : goal.returns-then-has_mark-clause-kept
 returns-then-has_mark-clause-kept g c = ([], ap (λ (v : View). v.found) c.self.view_is)
 
 pub returns-then-has_mark-clause-first : goal.returns-then-has_mark-clause-first
-returns-then-has_mark-clause-first g c same = omega arith
+returns-then-has_mark-clause-first g c = (c.none.result, λ _. refl, λ same. omega arith)
 
 pub returns-then-has_mark-clause-cost : goal.returns-then-has_mark-clause-cost
 returns-then-has_mark-clause-cost g c depth rise long high e = omega arith
 
 pub returns-in-Ok-clause-leads : goal.returns-in-Ok-clause-leads
-returns-in-Ok-clause-leads g c = subst (λ (v : View). LeadsOn v c.take_on.new.self c.in-Ok.moved) c.self.view_is c.in-Ok.ensures.leads
+returns-in-Ok-clause-leads g c = let h = c.in-Ok.ensures.leads in (h.0, h.1, subst (λ (v : View). LeadsOn v c.take_on.new.self h.0) c.self.view_is h.2)
 
 pub returns-in-Ok-clause-kept : goal.returns-in-Ok-clause-kept
 returns-in-Ok-clause-kept g c = subst (λ (v : View). KeepsFound v c.take_on.new.self) c.self.view_is c.in-Ok.ensures.kept
 
 pub returns-in-Ok-clause-first : goal.returns-in-Ok-clause-first
-returns-in-Ok-clause-first g c = subst (λ (v : View). IsFirst v c.take_on.new.self c.in-Ok.moved c.args.steps.now c.take_on.new.steps) c.self.view_is c.in-Ok.ensures.first
+returns-in-Ok-clause-first g c = let h = c.in-Ok.ensures.first in (h.0, h.1, subst (λ (v : View). IsFirst v c.take_on.new.self h.0 c.args.steps.now c.take_on.new.steps) c.self.view_is h.2)
 
 pub returns-in-Ok-clause-cost : goal.returns-in-Ok-clause-cost
 returns-in-Ok-clause-cost g c = subst (λ (v : View). Costs v c.take_on.new.self c.args.linkings.now c.args.steps.now c.take_on.new.steps) c.self.view_is c.in-Ok.ensures.cost

@@ -1,4 +1,4 @@
-use Rattle.std.proofs.Common.{◌≡◌, ◌≤◌, ℕ, ◌+◌, ◌*◌, List, [], ◌∷◌, length, reverse, Result, Ok, Err, OnErr, refl, sym, ap, ◌∙◌, subst}
+use Rattle.std.proofs.Common.{◌≡◌, ◌≤◌, ℕ, ◌+◌, ◌*◌, List, [], ◌∷◌, length, reverse, Result, Ok, Err, OnErr, refl, sym, ap, ◌∙◌, subst, arith}
 use Rattle.pad_branch.specs.Branch as branch
 use Rattle.pad_graph.specs.declared.added.Added.{Added}
 use Rattle.pad_graph.specs.declared.added.Added.TheVariants.{Known, Waiting, Below, Linked}
@@ -39,10 +39,13 @@ returns-in-Known-clause-stands g c =
     let i = c.self.inside in
     let m = c.args.message in
     let old : View = record { graph = i.graph; pruning = i.pruning; messages = i.messages.entries; branch = i.branch; found = reverse i.found.items; whole = i.whole } in
-    let mid : View = record old { graph = c.add.new.self } in
-    subst (λ (v : View). (b : Base) (R : List Message) (choice : Choice) → NamesDiffer (m ∷ R) → StandsFor v b R choice → IsReceived v mid b R m choice c.none.result) c.self.view_is
-    (λ b R choice d s. known_received old old b R m choice mid c.none.result c.none.ensures.reverted c.none.ensures.applied c.stays_chosen.ensures c.nothing_links.ensures c.found_stays.ensures c.trunk_stays.ensures
-    (is_adding old b R m choice mid c.args.name c.in_ok-add.field-0 Known c.requires.named c.in-Known.is s c.in_ok-add.ensures.stands) d (λ q. refl) refl refl refl refl)
+    let mid : View = record old { graph = c.add.new.self } in (
+      c.none.result,
+      λ _. refl,
+      subst (λ (v : View). (b : Base) (R : List Message) (choice : Choice) → NamesDiffer (m ∷ R) → StandsFor v b R choice → IsReceived v mid b R m choice c.none.result) c.self.view_is
+          (λ b R choice d s. known_received old old b R m choice mid c.none.result c.none.ensures.reverted c.none.ensures.applied c.stays_chosen.ensures c.nothing_links.ensures c.found_stays.ensures c.trunk_stays.ensures
+          (is_adding old b R m choice mid c.args.name c.in_ok-add.field-0 Known c.requires.named c.in-Known.is s c.in_ok-add.ensures.stands) d (λ q. refl) refl refl refl refl),
+    )
 
 pub returns-in_err-moved-in-Waiting-clause-refused : goal.returns-in_err-moved-in-Waiting-clause-refused
 returns-in_err-moved-in-Waiting-clause-refused g c =
@@ -58,18 +61,24 @@ returns-in_ok-moved-in-Waiting-clause-stands g c =
     let i = c.self.inside in
     let m = c.args.message in
     let old : View = record { graph = i.graph; pruning = i.pruning; messages = i.messages.entries; branch = i.branch; found = reverse i.found.items; whole = i.whole } in
-    let mid : View = record old { graph = c.add.new.self } in
-    subst (λ (v : View). (b : Base) (R : List Message) (choice : Choice) → NamesDiffer (m ∷ R) → StandsFor v b R choice → IsReceived v c.wait.new.self b R m choice c.in_ok-moved-in-Waiting.moved) c.self.view_is
-    (λ b R choice d s. c.in_ok-moved-in-Waiting.ensures.received i.graph b R choice d (is_adding old b R m choice mid c.args.name c.in_ok-add.field-0 Waiting c.requires.named c.in-Waiting.is s c.in_ok-add.ensures.stands))
+    let mid : View = record old { graph = c.add.new.self } in (
+      c.in_ok-moved-in-Waiting.moved,
+      λ _. refl,
+      subst (λ (v : View). (b : Base) (R : List Message) (choice : Choice) → NamesDiffer (m ∷ R) → StandsFor v b R choice → IsReceived v c.wait.new.self b R m choice c.in_ok-moved-in-Waiting.moved) c.self.view_is
+          (λ b R choice d s. c.in_ok-moved-in-Waiting.ensures.received i.graph b R choice d (is_adding old b R m choice mid c.args.name c.in_ok-add.field-0 Waiting c.requires.named c.in-Waiting.is s c.in_ok-add.ensures.stands)),
+    )
 
 pub returns-in-Below-clause-stands : goal.returns-in-Below-clause-stands
 returns-in-Below-clause-stands g c =
     let i = c.self.inside in
     let m = c.args.message in
     let old : View = record { graph = i.graph; pruning = i.pruning; messages = i.messages.entries; branch = i.branch; found = reverse i.found.items; whole = i.whole } in
-    let mid : View = record old { graph = c.add.new.self } in
-    subst (λ (v : View). (b : Base) (R : List Message) (choice : Choice) → NamesDiffer (m ∷ R) → StandsFor v b R choice → IsReceived v c.pass_below.new.self b R m choice c.pass_below.result) c.self.view_is
-    (λ b R choice d s. c.pass_below.ensures.received m i.graph b R choice d (is_adding old b R m choice mid c.args.name c.in_ok-add.field-0 (Below c.in-Below.below) c.requires.named c.in-Below.is s c.in_ok-add.ensures.stands))
+    let mid : View = record old { graph = c.add.new.self } in (
+      c.pass_below.result,
+      λ _. refl,
+      subst (λ (v : View). (b : Base) (R : List Message) (choice : Choice) → NamesDiffer (m ∷ R) → StandsFor v b R choice → IsReceived v c.pass_below.new.self b R m choice c.pass_below.result) c.self.view_is
+          (λ b R choice d s. c.pass_below.ensures.received m i.graph b R choice d (is_adding old b R m choice mid c.args.name c.in_ok-add.field-0 (Below c.in-Below.below) c.requires.named c.in-Below.is s c.in_ok-add.ensures.stands)),
+    )
 
 pub returns-in_err-moved-in-Linked-clause-refused : goal.returns-in_err-moved-in-Linked-clause-refused
 returns-in_err-moved-in-Linked-clause-refused g c =
@@ -86,8 +95,12 @@ returns-in_ok-moved-in-Linked-clause-stands g c =
     let m = c.args.message in
     let old : View = record { graph = i.graph; pruning = i.pruning; messages = i.messages.entries; branch = i.branch; found = reverse i.found.items; whole = i.whole } in
     let mid : View = record old { graph = c.add.new.self } in
-    subst (λ (v : View). (b : Base) (R : List Message) (choice : Choice) → NamesDiffer (m ∷ R) → StandsFor v b R choice → IsReceived v c.join.new.self b R m choice c.in_ok-moved-in-Linked.moved) c.self.view_is
-    (λ b R choice d s. c.in_ok-moved-in-Linked.ensures.received i.graph b R choice d (is_adding old b R m choice mid c.args.name c.in_ok-add.field-0 (Linked c.as_slice.result.now) c.requires.named (c.in-Linked.is ∙ ap Linked (sym c.as_slice.ensures)) s c.in_ok-add.ensures.stands))
+    let h = c.in_ok-moved-in-Linked.ensures.received in (
+      h.0,
+      h.1,
+      subst (λ (v : View). (b : Base) (R : List Message) (choice : Choice) → NamesDiffer (m ∷ R) → StandsFor v b R choice → IsReceived v c.join.new.self b R m choice h.0) c.self.view_is
+          (λ b R choice d s. h.2 i.graph b R choice d (is_adding old b R m choice mid c.args.name c.in_ok-add.field-0 (Linked c.as_slice.result.now) c.requires.named (c.in-Linked.is ∙ ap Linked (sym c.as_slice.ensures)) s c.in_ok-add.ensures.stands)),
+    )
 
 -- ---- the names that are known
 
@@ -174,7 +187,7 @@ returns-in_err-add-clause-untouched g c =
 
 pub returns-in-Known-clause-leads : goal.returns-in-Known-clause-leads
 returns-in-Known-clause-leads g c =
-    none_leads c.none.result c.args.self.now.branch.branch.units c.self.inside.branch.branch.units (record { left = c.none.ensures.reverted; came = c.none.ensures.applied }) (sym (ap (λ (v : View). v.branch.branch.units) c.self.view_is))
+    (c.none.result, λ _. refl, none_leads c.none.result c.args.self.now.branch.branch.units c.self.inside.branch.branch.units (record { left = c.none.ensures.reverted; came = c.none.ensures.applied }) (sym (ap (λ (v : View). v.branch.branch.units) c.self.view_is)))
 
 pub returns-in-Known-clause-kept : goal.returns-in-Known-clause-kept
 returns-in-Known-clause-kept g c = ([], ap (λ (v : View). v.found) c.self.view_is)
@@ -190,9 +203,12 @@ pub returns-in_ok-moved-in-Waiting-clause-leads : goal.returns-in_ok-moved-in-Wa
 returns-in_ok-moved-in-Waiting-clause-leads g c =
     let i = c.self.inside in
     let old : View = record { graph = i.graph; pruning = i.pruning; messages = i.messages.entries; branch = i.branch; found = reverse i.found.items; whole = i.whole } in
-    let mid : View = record old { graph = c.add.new.self } in
-    subst (λ (v : View). LeadsOn v c.wait.new.self c.in_ok-moved-in-Waiting.moved) c.self.view_is
-    (none_leads c.in_ok-moved-in-Waiting.moved i.branch.branch.units c.wait.new.self.branch.branch.units c.in_ok-moved-in-Waiting.ensures.none (sym (ap (λ (s : branch.State). s.units) c.wait.ensures.same.branch)))
+    let mid : View = record old { graph = c.add.new.self } in (
+      c.in_ok-moved-in-Waiting.moved,
+      λ _. refl,
+      subst (λ (v : View). LeadsOn v c.wait.new.self c.in_ok-moved-in-Waiting.moved) c.self.view_is
+          (none_leads c.in_ok-moved-in-Waiting.moved i.branch.branch.units c.wait.new.self.branch.branch.units c.in_ok-moved-in-Waiting.ensures.none (sym (ap (λ (s : branch.State). s.units) c.wait.ensures.same.branch))),
+    )
 
 pub returns-in_ok-moved-in-Waiting-clause-kept : goal.returns-in_ok-moved-in-Waiting-clause-kept
 returns-in_ok-moved-in-Waiting-clause-kept g c = ([], c.wait.ensures.same.found ∙ ap (λ (v : View). v.found) c.self.view_is)
@@ -201,9 +217,12 @@ pub returns-in-Below-clause-leads : goal.returns-in-Below-clause-leads
 returns-in-Below-clause-leads g c =
     let i = c.self.inside in
     let old : View = record { graph = i.graph; pruning = i.pruning; messages = i.messages.entries; branch = i.branch; found = reverse i.found.items; whole = i.whole } in
-    let mid : View = record old { graph = c.add.new.self } in
-    subst (λ (v : View). LeadsOn v c.pass_below.new.self c.pass_below.result) c.self.view_is
-    (none_leads c.pass_below.result i.branch.branch.units c.pass_below.new.self.branch.branch.units c.pass_below.ensures.none (sym (ap (λ (v : branch.View). v.branch.units) c.pass_below.ensures.branch)))
+    let mid : View = record old { graph = c.add.new.self } in (
+      c.pass_below.result,
+      λ _. refl,
+      subst (λ (v : View). LeadsOn v c.pass_below.new.self c.pass_below.result) c.self.view_is
+          (none_leads c.pass_below.result i.branch.branch.units c.pass_below.new.self.branch.branch.units c.pass_below.ensures.none (sym (ap (λ (v : branch.View). v.branch.units) c.pass_below.ensures.branch))),
+    )
 
 pub returns-in-Below-clause-kept : goal.returns-in-Below-clause-kept
 returns-in-Below-clause-kept g c = ([], c.pass_below.ensures.found ∙ ap (λ (v : View). v.found) c.self.view_is)
@@ -216,7 +235,7 @@ returns-in_err-moved-in-Linked-clause-same g c =
     on_err c.from_residual-in_err-moved-in-Linked.result (subst (λ (v : View). KeepsBranch v c.join.new.self) c.self.view_is (branch_on old mid c.join.new.self c.in_err-moved-in-Linked.ensures.same refl refl refl refl))
 
 pub returns-in_ok-moved-in-Linked-clause-leads : goal.returns-in_ok-moved-in-Linked-clause-leads
-returns-in_ok-moved-in-Linked-clause-leads g c = subst (λ (v : View). LeadsOn v c.join.new.self c.in_ok-moved-in-Linked.moved) c.self.view_is c.in_ok-moved-in-Linked.ensures.leads
+returns-in_ok-moved-in-Linked-clause-leads g c = let h = c.in_ok-moved-in-Linked.ensures.leads in (h.0, h.1, subst (λ (v : View). LeadsOn v c.join.new.self h.0) c.self.view_is h.2)
 
 pub returns-in_ok-moved-in-Linked-clause-kept : goal.returns-in_ok-moved-in-Linked-clause-kept
 returns-in_ok-moved-in-Linked-clause-kept g c = subst (λ (v : View). KeepsFound v c.join.new.self) c.self.view_is c.in_ok-moved-in-Linked.ensures.kept
@@ -265,7 +284,16 @@ returns-in_err-moved-in-Linked-clause-links g c =
 -- ---- in how many steps
 
 pub returns-in_ok-moved-in-Linked-clause-first : goal.returns-in_ok-moved-in-Linked-clause-first
-returns-in_ok-moved-in-Linked-clause-first g c = subst (λ (v : View). IsFirst v c.join.new.self c.in_ok-moved-in-Linked.moved c.args.steps.now c.join.new.steps) c.self.view_is c.in_ok-moved-in-Linked.ensures.first
+returns-in_ok-moved-in-Linked-clause-first g c = let h = c.in_ok-moved-in-Linked.ensures.first in (h.0, h.1, subst (λ (v : View). IsFirst v c.join.new.self h.0 c.args.steps.now c.join.new.steps) c.self.view_is h.2)
+
+pub returns-in-Known-clause-first : goal.returns-in-Known-clause-first
+returns-in-Known-clause-first g c = (c.none.result, λ _. refl, λ same. omega arith)
+
+pub returns-in_ok-moved-in-Waiting-clause-first : goal.returns-in_ok-moved-in-Waiting-clause-first
+returns-in_ok-moved-in-Waiting-clause-first g c = (c.in_ok-moved-in-Waiting.moved, λ _. refl, λ same. omega arith)
+
+pub returns-in-Below-clause-first : goal.returns-in-Below-clause-first
+returns-in-Below-clause-first g c = (c.pass_below.result, λ _. refl, λ same. omega arith)
 
 pub returns-in_ok-moved-in-Linked-clause-cost : goal.returns-in_ok-moved-in-Linked-clause-cost
 returns-in_ok-moved-in-Linked-clause-cost g c =
