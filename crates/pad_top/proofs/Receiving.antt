@@ -63,11 +63,11 @@ pub at_other : (chain : View) (unreadable : ℕ) (progress : Progress) → IsAt 
 at_other chain unreadable progress at = record { truncates = at.truncates; knows = at.knows; stands = at.stands; others = ap (λ n. n + 1) at.others }
 
 -- a message was received
-pub at_more : (old new : View) (unreadable : ℕ) (message : Message) (moved : Moved) → new.whole ≡ old.whole
+pub at_more : (old new : View) (unreadable : ℕ) (message : Message) → new.whole ≡ old.whole
     → ((base : Base) (received : List Message) → Knows old base received → Knows new base (message ∷ received))
-    → ((base : Base) (received : List Message) (choice : Choice) → NamesDiffer (message ∷ received) → StandsFor old base received choice → IsReceived old new base received message choice moved)
+    → ((base : Base) (received : List Message) (choice : Choice) → NamesDiffer (message ∷ received) → StandsFor old base received choice → (moved : Moved) × IsReceived old new base received message choice moved)
     → (progress : Progress) → IsAt old unreadable progress → IsAt new unreadable (progress_after (Some message) progress)
-at_more old new unreadable message moved whole knows stands progress at = record {
+at_more old new unreadable message whole knows stands progress at = record {
   truncates = whole ∙ at.truncates;
   knows = subst (Knows new first_base) (sym (turned progress.messages message)) (knows first_base (reverse progress.messages) at.knows);
   stands = λ differ. goes_on differ (at.stands (differ_front progress.messages message differ));
@@ -77,7 +77,7 @@ at_more old new unreadable message moved whole knows stands progress at = record
     goes_on : NamesDiffer (progress.messages ++ message ∷ []) → ((choice : Choice) × StandsFor old first_base (reverse progress.messages) choice)
         → (choice : Choice) × StandsFor new first_base (reverse (progress.messages ++ message ∷ [])) choice
     goes_on differ (choice, stood) =
-        let is = stands first_base (reverse progress.messages) choice (differ_turned progress.messages message differ) stood in
+        let is = (stands first_base (reverse progress.messages) choice (differ_turned progress.messages message differ) stood).1 in
         (is.next, subst (λ received. StandsFor new first_base received is.next) (sym (turned progress.messages message)) is.stands)
 
 -- ---- how many names are known

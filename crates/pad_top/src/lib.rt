@@ -10,6 +10,7 @@ mod read_line;
 mod received;
 mod refused;
 mod replay;
+mod rest;
 mod serve;
 mod status;
 mod words;

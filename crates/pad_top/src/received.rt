@@ -106,7 +106,7 @@ impl Received {
         ensures received { OnOk result ((progress : Progress) → IsAt self.old.chain self.old.unreadable progress → IsAt self.new.chain self.new.unreadable (progress_after (Some message) progress)) }
         ensures refused { IfErr result (λ refused. (progress : Progress) → IsAt self.old.chain self.old.unreadable progress → IsMessageRefusal message progress.messages refused) }
     {
-        self.chain.receive(alloc, message, steps)?;
+        self.chain.receive_without_moves(alloc, message, steps)?;
         Ok(())
     }
 }

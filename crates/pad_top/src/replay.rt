@@ -9,6 +9,7 @@ ghost use Rattle.pad_top.specs.Replay.{IsReplayed};
 use crate::input::read_all;
 use crate::received::Received;
 use crate::refused::ReplayRefused;
+use crate::rest::Rest;
 use pad_edge::Source;
 use pad_lines::split_line;
 use pad_patch::Steps;
@@ -31,27 +32,26 @@ pub(crate) fn replay<I: Source, L: Ledger>(
 {
     let mut steps = Steps::<L>::new(blank);
     let bytes = read_all(alloc, input)?;
-    let received = receive_lines(alloc, bytes.as_slice(), &mut steps)?;
-    // the report takes the room of the input
-    drop(bytes);
+    let received = receive_lines(alloc, bytes, &mut steps)?;
     let text = received.report(alloc)?;
     Ok(text)
 }
 
-/// What is received of all lines of a text.
+/// What is received of all lines of a text. What is done of it gives its room back.
 fn receive_lines<L: Ledger>(
     alloc: Global,
-    text: &[u8],
+    text: Vec<u8>,
     steps: &mut Steps<L>,
 ) -> Result<Received, ReplayRefused>
-    ensures received { IfOk result (λ received. IsWholeAt text.now received.chain received.unreadable) }
-    ensures refused { IfErr result (IsLinesRefusal (lines_of text.now)) }
+    ensures received { IfOk result (λ received. IsWholeAt text.items received.chain received.unreadable) }
+    ensures refused { IfErr result (IsLinesRefusal (lines_of text.items)) }
 {
     let mut received = Received::new(alloc)?;
-    let mut rest = text;
-    while let Some((line, after)) = split_line(rest) {
+    let mut rest = Rest::new(text);
+    while let Some((line, after)) = split_line(rest.as_slice()) {
+        let left = after.len();
         received.receive_line(alloc, line, steps)?;
-        rest = after;
+        rest.go_on(left);
     }
     Ok(received)
 }
