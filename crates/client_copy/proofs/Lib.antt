@@ -1,3 +1,4 @@
+pub mod CallerLemmas
 pub mod Behind
 pub mod Own
 pub mod Editing
