@@ -15,6 +15,7 @@ import os
 import pathlib
 import random
 import re
+import resource
 import select
 import signal
 import socket
@@ -64,7 +65,9 @@ class Server:
         return [*self.command, "serve", "%s:%d" % self.address, str(self.folder), turns]
 
     def start(self):
-        self.process = subprocess.Popen(self.words(), stdout=subprocess.PIPE, stderr=subprocess.STDOUT)
+        # A write past a limit on files shall fail, and not end the process by a signal: `full_disk` sets such a limit.
+        ignore = lambda: signal.signal(signal.SIGXFSZ, signal.SIG_IGN)
+        self.process = subprocess.Popen(self.words(), stdout=subprocess.PIPE, stderr=subprocess.STDOUT, preexec_fn=ignore)
         began = time.time()
         while time.time() < began + self.seconds:
             try:
@@ -453,6 +456,38 @@ def files(server):
     wanted += [True, 106, b"PADLOG2\n" + moved + b"\x01\x00\x00\x00\x00" + b"\x01\x00\x00\x00\x29" + moment + a.id.encode() + b"n" + b"\x00"]
     got.append(abs(int.from_bytes(moment, "big") - time.time()) < 100)
     wanted.append(True)
+    return wanted, got
+
+
+@row
+def full_disk(server):
+    """A write that finds no room is told its sender alone, and nothing that was acknowledged is lost; once there is room, messages are acknowledged again."""
+    c = fresh()
+    a, b = entered(server), entered(server)
+    k = keeper_of(a, c)
+    keeper_of(b, c)
+    a.ask([9, "PING"])
+    path = server.folder / (c + ".padlog2")
+    got = [a.ask([1, "MSG", c, "first"])]
+    limit = lambda size: resource.prlimit(owner_of(server.address[1]), resource.RLIMIT_FSIZE, (size, resource.RLIM_INFINITY))
+    size = path.stat().st_size
+    for room in (0, 1, 4, 500):  # none, in the head of the entry, in its content
+        limit(size + room)
+        got.append(a.ask([2, "MSG", c, "y" * 2000]))
+    got.append(a.ask([3, "MSG", c, "short"]))
+    limit(resource.RLIM_INFINITY)
+    got.append(a.ask([4, "MSG", c, "z" * 2000]))
+    got.append(b.ask([5, "PING"]))
+    refused, told = texts([[2, "ERROR", "ESTORE", c]]), lambda content: compact([0, a.id, "MSG", c, content])
+    wanted = [texts([[1, "ACK"]])] + [refused] * 4 + [texts([[3, "ACK"]]), texts([[4, "ACK"]])]
+    wanted.append([told("first"), told("short"), told("z" * 2000), compact([5, "ACK"])])
+    kept = [(a.id, "first"), (a.id, "short"), (a.id, "z" * 2000)]
+    got.append([(it[5], it[6]) for it in history(a, k, c)[:-1]])
+    server.kill()
+    server.start()
+    a = entered(server)
+    got.append([(it[5], it[6]) for it in history(a, keeper_of(a, c), c)[:-1]])
+    wanted += [kept, kept]
     return wanted, got
 
 
