@@ -1,0 +1,12 @@
+pub mod Steps
+pub mod Switching
+pub mod Paths
+pub mod Given
+pub mod Sent
+pub mod Holding
+pub mod Receiving
+pub mod Editing
+pub mod Making
+pub mod Adopting
+pub mod Repairing
+pub mod Living
