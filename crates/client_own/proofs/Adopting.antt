@@ -75,6 +75,7 @@ adopts laws adopted all life are holds message has may after is =
         holds = steps_by life.gone life.marks base sent all (λ other path is_path.
             step_by laws life.gone life.marks base sent all are keeps.sent_are (counted_of life.copy.strokes sent keeps.sent_given) first_text other path is_path (λ own at same. absurd (none (name_of other) own at)));
         stands = adopted life.gone life.marks base.text work hash there;
+        made_here = refl;
       };
       linked = λ name made. absurd (none_made all life holds may name made);
     })

@@ -1,4 +1,6 @@
 -- An edit.
+use Rattle.std.proofs.Common.{◌∙◌}
+use Rattle.client_own.proofs.Fitting.{in_turn_before}
 use Rattle.std.proofs.Common.{◌≡◌, ◌≤◌, ◌+◌, inl, inr, ℕ, Bool, true, false, List, [], ◌∷◌, ◌++◌, length, refl, sym, ap, subst, Option, Some, None, Contains, arith}
 use Rattle.std.specs.Prelude.{slice_get}
 use Rattle.std.proofs.lemmas.List.Elements.{Contains-append_left, Contains-append_cases}
@@ -125,6 +127,7 @@ keeps_edited laws marks edits all life are keeps operation after is =
           (λ mark place new at_place. newer mark new (given_by strokes sent keeps.sent_given mark
           (row_mark laws base all sent are keeps.sent_are counted below (is_path.0.1, is_path.1.1) mark (entry (row_on base sent below) place mark at_place))))));
       stands = edits.turned life.gone life.marks new_gone new_typed (marks_on sent chosen) (text base chosen) (row_on base sent chosen) work edit is_typed keeps.stands;
+      made_here = in_turn_before work edit (length (text base chosen)) ∙ keeps.made_here;
     }
 
 pub edits_hold : PathLaws → MarkLaws → EditLaws → (all : List Message) (life : Life) → AreAll all → Holds all life → (operation : Operation) (after : Copy) → Edits (committed life.copy.pad) life.copy operation after

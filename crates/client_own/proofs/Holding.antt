@@ -1,4 +1,5 @@
 -- What holds of a life, and that it holds at its beginning.
+use Rattle.pad_text.specs.Hash.{document_hash}
 use Rattle.std.proofs.Common.{◌≡◌, ◌⊎◌, inl, ℕ, false, List, [], ◌∷◌, refl, Some, None, Contains}
 use Rattle.pad_list.proofs.CallerLemmas.{contains_none}
 use Rattle.pad_text.specs.Text.{IsText}
@@ -42,6 +43,7 @@ pub record Keeps (all : List Message) (life : Life) : Type 0 where
   pub since_repair : life.copy.pad.whole ≡ false → (name : Name) (own : Marked) → sent_as life.copy.sent name ≡ Some own → Contains life.made name
   pub holds : HoldsOnPaths life.gone life.marks life.copy.pad.base life.copy.sent all
   pub stands : StandsOn life.gone life.marks life.copy.pad.base life.copy.sent life.copy.pad.choice.chosen life.copy.work
+  pub made_here : life.copy.work.patch.before ≡ document_hash (text life.copy.pad.base life.copy.pad.choice.chosen)
 
 pub record Holds (all : List Message) (life : Life) : Type 0 where
   pub keeps : Keeps all life
@@ -103,6 +105,7 @@ begins laws nothing all are no_text = record {
     holds = steps_by [] [] first_base [] all (λ message path is.
         step_by laws [] [] first_base [] all are (λ name own at. none_some own at) (λ name own at. none_some own at) no_text message path is (λ own at same. none_some own at));
     stands = nothing [] [] [] [] new_copy.work (empty_applies [] new_copy.work.patch.before) refl;
+    made_here = refl;
   };
   linked = λ name has. absurd (contains_none name has);
 }

@@ -1,5 +1,6 @@
 pub mod Steps
 pub mod Switching
+pub mod Fitting
 pub mod Paths
 pub mod Given
 pub mod Sent

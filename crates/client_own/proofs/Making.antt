@@ -1,4 +1,9 @@
 -- A patch message is made of the work.
+use Rattle.std.proofs.Common.{◌≤◌, length}
+use Rattle.pad_patch.specs.Misfit.{longest_text}
+use Rattle.pad_patch.specs.Piece.{text_after}
+use Rattle.client_own.proofs.Fitting.{fits_by}
+use Rattle.client_own.proofs.Steps.{StepLaws}
 use Rattle.std.proofs.Common.{◌≡◌, ◌≢◌, ◌⊎◌, inl, inr, ℕ, Bool, true, false, cond, List, [], ◌∷◌, ◌++◌, refl, sym, ◌∙◌, ap, subst, Option, Some, Contains, arith}
 use Rattle.pad_list.proofs.CallerLemmas.{contains_head, contains_more, contains_cases, contains_dec}
 use Rattle.pad_text.specs.declared.name.Name.{Name}
@@ -199,19 +204,22 @@ keeps_sent laws made_is_sent all life are holds message has made fits older =
                 ((keeps.holds (other ∷ path) is_path).0.own_sent own before plain)
           ]));
       stands = same_stands base name work sent chosen none keeps.stands;
+      made_here = keeps.made_here;
     }
 
-pub makes : MovedStands → PathLaws → MarkLaws → MadeIsSent → (all : List Message) (life : Life) → AreAll all → Holds all life → (message : Message) → Contains all message → IsPatchOf life.copy message
-    → Fits message.patch (committed life.copy.pad) → HangsNothingOlder all life (name_of message) → (moved : Moved) (after : Copy) → Makes life.copy message moved after
+pub makes : StepLaws → MovedStands → PathLaws → MarkLaws → MadeIsSent → (all : List Message) (life : Life) → AreAll all → Holds all life → (message : Message) → Contains all message → IsPatchOf life.copy message
+    → length (text_after life.copy.work.patch (committed life.copy.pad)) ≤ longest_text → HangsNothingOlder all life (name_of message) → (moved : Moved) (after : Copy) → Makes life.copy message moved after
     → Holds all (record life { copy = after; made = name_of message ∷ life.made })
-makes switches laws marks made_is_sent all life are holds message has made fits older moved after is =
+makes steps switches laws marks made_is_sent all life are holds message has made short older moved after is =
+    let fits : Fits message.patch (committed life.copy.pad) = subst (λ (p : Patch). Fits p (committed life.copy.pad)) (sym made.patch)
+    (fits_by life.copy.work.patch (committed life.copy.pad) holds.keeps.stands.applies holds.keeps.made_here short) in
     let name = name_of message in let base = life.copy.pad.base in let chosen = life.copy.pad.choice.chosen in
     let sent = (name, life.copy.work) ∷ life.copy.sent in
     let kept = keeps_sent laws made_is_sent all life are holds message has made fits older in
     let mid = sent_life life message in
     let pad_is = received_pad life.copy.pad message moved is.pad is.received in
     let then : Holds all (followed mid message moved is.pad.choice) = record {
-      keeps = keeps_followed switches marks all mid kept message has moved is.pad.choice is.received.chosen is.received.moves;
+      keeps = keeps_followed steps switches marks all mid kept message has moved is.pad.choice is.received.chosen is.received.moves;
       linked = λ other contains. elim (contains_cases name life.made other contains) [
         | inl same ↦ (
           message,

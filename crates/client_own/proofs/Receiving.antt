@@ -1,4 +1,6 @@
 -- A message is received.
+use Rattle.client_own.proofs.Fitting.{switched_made}
+use Rattle.client_own.proofs.Steps.{StepLaws}
 use Rattle.std.proofs.Common.{◌≡◌, inl, inr, Bool, true, false, List, [], ◌∷◌, sym, ◌∙◌, ap, subst, Contains, append-nil}
 use Rattle.pad_list.proofs.CallerLemmas.{contains_more, contains_cases}
 use Rattle.pad_message.specs.declared.message.Message.{Message}
@@ -38,10 +40,10 @@ followed life message moved choice = record life {
   };
 }
 
-pub keeps_followed : MovedStands → MarkLaws → (all : List Message) (life : Life) → Keeps all life → (message : Message) → Contains all message → (moved : Moved) (choice : Choice)
+pub keeps_followed : StepLaws → MovedStands → MarkLaws → (all : List Message) (life : Life) → Keeps all life → (message : Message) → Contains all message → (moved : Moved) (choice : Choice)
     → IsChosenNext life.copy.pad.whole life.copy.pad.base life.copy.pad.received message life.copy.pad.choice choice → IsMoved life.copy.pad.base life.copy.pad.choice.chosen choice.chosen moved
     → Keeps all (followed life message moved choice)
-keeps_followed switches marks all life keeps message has moved choice chosen moves =
+keeps_followed steps switches marks all life keeps message has moved choice chosen moves =
     let base = life.copy.pad.base in
     let old = life.copy.pad.choice.chosen in
     let next = best_next life.copy.pad.whole base life.copy.pad.received message life.copy.pad.choice choice chosen in
@@ -63,6 +65,7 @@ keeps_followed switches marks all life keeps message has moved choice chosen mov
       since_repair = keeps.since_repair;
       holds = keeps.holds;
       stands = subst (λ (d : Draft). StandsOn life.gone life.marks base life.copy.sent choice.chosen d.work) (sym switch.1) switch.2;
+      made_here = switched_made steps life.gone life.marks base life.copy.sent old choice.chosen moved life.copy.work moves (keeps.holds old old_path) keeps.best.path.1 (keeps.holds choice.chosen new_path) keeps.made_here;
     }
 
 -- what is linked stays so
@@ -84,12 +87,12 @@ same_pad pad all base received whole one two three four =
 pub received_pad : (before : Pad) (message : Message) (moved : Moved) (after : Pad) → Receives before message moved after → after ≡ pad_with before message after.choice
 received_pad before message moved after is = same_pad after (message ∷ before.all) before.base (message ∷ before.received) before.whole is.all is.base is.received is.whole
 
-pub hears : MovedStands → MarkLaws → (all : List Message) (life : Life) → Holds all life → (message : Message) → Contains all message → (moved : Moved) (after : Copy) → Follows life.copy message moved after
+pub hears : StepLaws → MovedStands → MarkLaws → (all : List Message) (life : Life) → Holds all life → (message : Message) → Contains all message → (moved : Moved) (after : Copy) → Follows life.copy message moved after
     → Holds all (record life { copy = after })
-hears switches marks all life is message has moved after follows =
+hears steps switches marks all life is message has moved after follows =
     let pad_is = received_pad life.copy.pad message moved follows.pad follows.received in
     let then : Holds all (followed life message moved follows.pad.choice) = record {
-      keeps = keeps_followed switches marks all life is.keeps message has moved follows.pad.choice follows.received.chosen follows.received.moves;
+      keeps = keeps_followed steps switches marks all life is.keeps message has moved follows.pad.choice follows.received.chosen follows.received.moves;
       linked = linked_followed life message moved follows.pad.choice is.linked;
     } in
     let work = (switched life.copy.sent moved (draft_at life.copy.pad.base life.copy.pad.choice.chosen life.copy.work)).work in

@@ -1,4 +1,7 @@
 -- A repair ends: all begins anew, with nothing typed yet.
+use Rattle.std.proofs.Common.{ap, ◌∙◌}
+use Rattle.client_own.proofs.Fitting.{switched_made}
+use Rattle.client_own.proofs.Steps.{StepLaws}
 use Rattle.std.proofs.Common.{◌≡◌, inl, inr, Bool, true, false, List, [], refl, sym, subst, Contains, append-nil}
 use Rattle.pad_list.proofs.CallerLemmas.{contains_none}
 use Rattle.pad_text.specs.Text.{IsText}
@@ -50,6 +53,7 @@ notes all life message holds = let keeps = holds.keeps in record {
     since_repair = keeps.since_repair;
     holds = keeps.holds;
     stands = keeps.stands;
+    made_here = keeps.made_here;
   };
   linked = holds.linked;
 }
@@ -78,8 +82,8 @@ anew life pad work = record { copy = record life.copy { pad = pad; work = work }
 
 begins_anew : PathLaws → NothingTyped → IsText [] → (all : List Message) (life : Life) → AreAll all → Keeps all life → (received : List Message) → AreAmong received all
     → (choice : Choice) → IsWholeChoice first_base received choice → (work : Marked) → IsGiven life.copy.strokes work → CanApply work.patch (text first_base choice.chosen)
-    → Holds all (anew life (new_pad life.copy.pad received choice) work)
-begins_anew laws nothing no_text all life are keeps received among choice whole work given applies =
+    → work.patch.before ≡ document_hash (text first_base choice.chosen) → Holds all (anew life (new_pad life.copy.pad received choice) work)
+begins_anew laws nothing no_text all life are keeps received among choice whole work given applies made =
     let sent = life.copy.sent in
     record {
       keeps = record {
@@ -95,15 +99,16 @@ begins_anew laws nothing no_text all life are keeps received among choice whole 
         since_repair = λ not_whole name own at. let clash : true ≡ false = not_whole in cc;
         holds = holds_anew laws all are first_base sent keeps.sent_are (counted_of life.copy.strokes sent keeps.sent_given) no_text;
         stands = nothing [] (marks_on sent choice.chosen) (text first_base choice.chosen) (row_on first_base sent choice.chosen) work applies given.counted;
+        made_here = made;
       };
       linked = λ name made. absurd (contains_none name made);
     }
 
 -- the work goes on from the path to the old best message
-goes_on : MovedStands → PathLaws → MarkLaws → NothingTyped → IsText [] → (all : List Message) (life : Life) → AreAll all → Keeps all life → (received : List Message) → AreAmong received all
+goes_on : StepLaws → MovedStands → PathLaws → MarkLaws → NothingTyped → IsText [] → (all : List Message) (life : Life) → AreAll all → Keeps all life → (received : List Message) → AreAmong received all
     → (choice : Choice) → IsWholeChoice first_base received choice → (path : List Message) → LeadsToOldBest life.copy.pad received path → (moved : Moved) → IsMoved first_base path choice.chosen moved
     → Holds all (anew life (new_pad life.copy.pad received choice) (switched life.copy.sent moved (draft_at first_base path life.copy.work)).work)
-goes_on switches laws marks nothing no_text all life are keeps received among choice whole path leads moved moves =
+goes_on steps switches laws marks nothing no_text all life are keeps received among choice whole path leads moved moves =
     let sent = life.copy.sent in let work = life.copy.work in
     let anew_holds = holds_anew laws all are first_base sent keeps.sent_are (counted_of life.copy.strokes sent keeps.sent_given) no_text in
     let same : text life.copy.pad.base life.copy.pad.choice.chosen ≡ text first_base path
@@ -115,19 +120,21 @@ goes_on switches laws marks nothing no_text all life are keeps received among ch
     let stands : StandsOn [] [] first_base sent choice.chosen next = subst (λ (d : Draft). StandsOn [] [] first_base sent choice.chosen d.work) (sym switch.1) switch.2 in
     begins_anew laws nothing no_text all life are keeps received among choice whole next
     (switched_given marks life.copy.strokes sent keeps.sent_given moved (draft_at first_base path work) keeps.work_given) stands.applies
+    (switched_made steps [] [] first_base sent path choice.chosen moved work moves (anew_holds path (path_more first_base received all path among leads.is_path)) leads.is_path.1
+    (anew_holds choice.chosen (path_more first_base received all choice.chosen among whole.best.path)) (keeps.made_here ∙ ap document_hash same))
 
 repaired_pad : (before : Pad) (received : List Message) (pad : Pad) → IsRepaired before received pad → pad ≡ new_pad before received pad.choice
 repaired_pad before received pad is = same_pad pad before.all first_base received true is.all is.base is.received_all is.whole
 
-pub repairs : MovedStands → PathLaws → MarkLaws → NothingTyped → IsText [] → (all : List Message) (life : Life) → AreAll all → Holds all life → (received : List Message) → AreAmong received all
+pub repairs : StepLaws → MovedStands → PathLaws → MarkLaws → NothingTyped → IsText [] → (all : List Message) (life : Life) → AreAll all → Holds all life → (received : List Message) → AreAmong received all
     → (found : Bool) (after : Copy) → EndsRepair life.copy received found after → Holds all (record { copy = after; marks = []; gone = []; made = [] })
-repairs switches laws marks nothing no_text all life are holds received among found after (EndsRepair.goes_on pad path moved is leads moves) =
+repairs steps switches laws marks nothing no_text all life are holds received among found after (EndsRepair.goes_on pad path moved is leads moves) =
     let work = (switched life.copy.sent moved (draft_at first_base path life.copy.work)).work in
     subst (λ (p : Pad). Holds all (anew life p work)) (sym (repaired_pad life.copy.pad received pad is))
-    (goes_on switches laws marks nothing no_text all life are holds.keeps received among pad.choice is.choice path leads moved moves)
-repairs switches laws marks nothing no_text all life are holds received among found after (EndsRepair.starts_anew pad is none) =
+    (goes_on steps switches laws marks nothing no_text all life are holds.keeps received among pad.choice is.choice path leads moved moves)
+repairs steps switches laws marks nothing no_text all life are holds received among found after (EndsRepair.starts_anew pad is none) =
     let T : Pad → Marked → Type 0 = λ p w. Holds all (anew life p w) in
     let hash = document_hash (committed pad) in
     subst (λ (p : Pad). T p (empty hash)) (sym (repaired_pad life.copy.pad received pad is))
     (begins_anew laws nothing no_text all life are holds.keeps received among pad.choice is.choice (empty hash)
-    (record { counted = refl; marks = λ mark has. none_typed mark has }) (empty_applies (text first_base pad.choice.chosen) hash))
+    (record { counted = refl; marks = λ mark has. none_typed mark has }) (empty_applies (text first_base pad.choice.chosen) hash) (ap (λ (b : Base). document_hash (text b pad.choice.chosen)) is.base))

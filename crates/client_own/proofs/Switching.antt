@@ -24,12 +24,12 @@ all_reverted laws gone typed base sent common (message ∷ left) work steps stan
     (next, ap (in_order (reverted sent) (moves_back base common left)) is ∙ more, last)
 
 -- moves in two parts
-in_parts : (step : Move → Draft → Draft) (moves others : List Move) (draft : Draft) → in_order step (moves ++ others) draft ≡ in_order step others (in_order step moves draft)
+pub in_parts : (step : Move → Draft → Draft) (moves others : List Move) (draft : Draft) → in_order step (moves ++ others) draft ≡ in_order step others (in_order step moves draft)
 in_parts step [] others draft = refl
 in_parts step (move ∷ moves) others draft = in_parts step moves others (step move draft)
 
 -- the newest message comes last
-last_on : (message : Message) (joined : List Message) → moves_on (message ∷ joined) ≡ moves_on joined ++ move_on message ∷ []
+pub last_on : (message : Message) (joined : List Message) → moves_on (message ∷ joined) ≡ moves_on joined ++ move_on message ∷ []
 last_on message joined = ap (map move_on) (reverse-append (message ∷ []) joined) ∙ map-append move_on (reverse joined) (message ∷ [])
 
 -- all that came

@@ -1,9 +1,11 @@
 -- The life of a working copy: what befalls it, one event after another, with the marks that were typed since the last repair ended.
+use Rattle.pad_patch.specs.Piece.{text_after}
+use Rattle.std.specs.Prelude.{◌≤◌}
 use Rattle.std.specs.Prelude.{◌≢◌, ◌+◌, Bool, List, [], ◌∷◌, ◌++◌, length, All, None, Contains}
 use Rattle.pad_text.specs.Text.{IsText}
 use Rattle.pad_text.specs.declared.name.Name.{Name}
 use Rattle.pad_patch.specs.declared.operation.Operation.{Operation}
-use Rattle.pad_patch.specs.Misfit.{Fits}
+use Rattle.pad_patch.specs.Misfit.{longest_text}
 use Rattle.pad_patch.specs.Removed.{removed_by}
 use Rattle.pad_message.specs.declared.message.Message.{Message}
 use Rattle.pad_message.specs.Message.{name_of}
@@ -71,8 +73,8 @@ pub data Lives (all : List Message) : Life → Type 0 where
   begins : Lives all new_life
   edits : (before : Life) (operation : Operation) (after : Copy) → Lives all before → Edits (committed before.copy.pad) before.copy operation after → Lives all (edited_life before operation after)
   hears : (before : Life) (message : Message) (moved : Moved) (after : Copy) → Lives all before → Contains all message → Follows before.copy message moved after → Lives all (record before { copy = after })
-  -- a patch message is made of the work, which fits the committed text
-  makes : (before : Life) (message : Message) (moved : Moved) (after : Copy) → Lives all before → Contains all message → IsPatchOf before.copy message → Fits message.patch (committed before.copy.pad)
+  -- a patch message is made of the work, where the shown text is not too long
+  makes : (before : Life) (message : Message) (moved : Moved) (after : Copy) → Lives all before → Contains all message → IsPatchOf before.copy message → length (text_after before.copy.work.patch (committed before.copy.pad)) ≤ longest_text
       → HangsNothingOlder all before (name_of message) → Makes before.copy message moved after → Lives all (record before { copy = after; made = name_of message ∷ before.made })
   adopts : (before : Life) (message : Message) (after : Copy) → Lives all before → Contains all message → MayAdopt before.copy.pad → Adopts before.copy message after → Lives all (record before { copy = after })
   -- a repair heard a message; and it ended, from which on all begins anew

@@ -28,6 +28,11 @@ pub fn own_work_stands_once()
     ensures { OwnWorkStandsOnce }
 {
     moved_stands();
+    own_reverted();
+    own_applied();
+    other_reverted();
+    other_applied();
+    inverse_gives_back();
     own_edited();
     edit_is_typed();
     sent_stays();

@@ -4,6 +4,13 @@ use Rattle.client_own.proofs.laws.own_work_stands_once.Goals as goal
 
 pub returns : goal.returns
 returns c = stands_once (record {
+  steps = record {
+    own_back = c.own_reverted.ensures;
+    own_on = c.own_applied.ensures;
+    other_back = c.other_reverted.ensures;
+    other_on = c.other_applied.ensures;
+    gives_back = c.inverse_gives_back.ensures;
+  };
   switches = c.moved_stands.ensures;
   paths = record { applies = c.fitting_applies.ensures; texts = c.texts_stay_texts.ensures; long = c.row_is_as_long.ensures; row_marks = c.row_marks.ensures };
   marks = record {
