@@ -667,18 +667,23 @@ def many_channels(server):
 
 
 def endings(server):
-    """How it ends: the address in use, a folder that is a file, the turns."""
+    """How it ends: the address in use, a folder that is a file, or that cannot be made, words that are no address, the turns."""
     run = lambda words: subprocess.run(words, stdout=subprocess.PIPE, stderr=subprocess.DEVNULL)
     got, wanted = [], []
     done = run(server.words())
     got.append((done.returncode, done.stdout))
     wanted.append((6, b"link fault\n"))
     other = Server(server.command, server.folder, server.seconds)
-    other.folder = server.folder / "a file"
-    other.folder.write_bytes(b"x")
-    done = run(other.words())
-    got.append((done.returncode, done.stdout))
-    wanted.append((5, b"store fault\n"))
+    (server.folder / "a file").write_bytes(b"x")
+    for folder in (server.folder / "a file", pathlib.Path("/proc/none")):
+        other.folder = folder
+        done = run(other.words())
+        got.append((done.returncode, done.stdout))
+        wanted.append((5, b"store fault\n"))
+    for address in ("127.0.0.1", "127.0.0.1:x", "localhost:80", "127.0.0.1:65536"):
+        done = run([*server.command, "serve", address, str(server.folder), "1"])
+        got.append((done.returncode, done.stdout))
+        wanted.append((6, b"link fault\n"))
     other.folder = server.folder
     done = run(other.words("3"))
     got.append((done.returncode, done.stdout))
