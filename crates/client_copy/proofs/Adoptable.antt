@@ -1,5 +1,5 @@
 -- When a checkpoint may be adopted: no message is known exactly where the chain knows none.
-use Rattle.std.proofs.Common.{◌≡◌, ◌≢◌, ℕ, Bool, false, inl, inr, List, [], ◌∷◌, length, refl, sym, ◌∙◌, ap, subst, arith}
+use Rattle.std.proofs.Common.{◌≡◌, ◌≢◌, ℕ, Bool, false, inl, inr, List, [], ◌∷◌, length, refl, sym, ◌∙◌, ap, arith}
 use Rattle.std.specs.Prelude.{◌↔◌, IsTrue}
 use Rattle.std.specs.List.{Contains}
 use Rattle.std.proofs.lemmas.List.Elements.{Contains-append_left, Contains-push}
@@ -11,7 +11,7 @@ use Rattle.pad_model.specs.declared.base.Base.{Base}
 use Rattle.pad_model.specs.Base.{first_base}
 use Rattle.pad_model.specs.Path.{text, IsPath}
 use Rattle.pad_model.specs.Count.{IsKnown}
-use Rattle.client_copy.specs.Pad.{Pad, committed}
+use Rattle.client_copy.specs.Pad.{committed}
 use Rattle.client_copy.specs.State.{Copy}
 use Rattle.client_copy.specs.Adopt.{MayAdopt}
 use Rattle.client_copy.specs.View.{View, NoClash, IsBaseOf, StandsAs}

@@ -1,5 +1,5 @@
 -- The work is moved from the empty text to another one.
-use Rattle.std.proofs.Common.{◌≡◌, ℕ, ◌+◌, ◌<◌, ◌≤◌, inr, true, false, true≢false, List, [], ◌∷◌, suc, length, refl, sym, ◌∙◌, ap, subst, arith, Some}
+use Rattle.std.proofs.Common.{◌≡◌, ℕ, ◌<◌, ◌≤◌, inr, true, false, true≢false, List, [], ◌∷◌, suc, length, refl, sym, ◌∙◌, ap, subst, arith, Some}
 use Rattle.std.specs.Prelude.{slice_get}
 use Rattle.std.specs.List.{All, Contains}
 use Rattle.std.proofs.lemmas.List.Elements.{All-nil, All-cons, Contains-append_left, Contains-push}
@@ -28,7 +28,7 @@ use Rattle.client_copy.specs.Pad.{begun}
 use Rattle.client_copy.specs.State.{Copy}
 use Rattle.client_copy.specs.Adopt.{Adopts}
 use Rattle.client_copy.specs.View.{View, StandsAs}
-use Rattle.client_copy.proofs.Behind.{ground_on, sent_to}
+use Rattle.client_copy.proofs.Behind.{sent_to}
 use Rattle.client_copy.proofs.Following.{sent_among}
 
 abbrev pub RemovesNothing : Operation → Type 0

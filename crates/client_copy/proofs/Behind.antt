@@ -7,13 +7,13 @@ use Rattle.pad_text.specs.Text.{IsText}
 use Rattle.pad_text.specs.Hash.{document_hash}
 use Rattle.pad_patch.specs.declared.operation.Operation.{Operation}
 use Rattle.pad_patch.specs.Piece.{text_after}
-use Rattle.pad_patch.specs.Misfit.{CanApply, longest_text}
+use Rattle.pad_patch.specs.Misfit.{longest_text}
 use Rattle.pad_stroke.specs.declared.mark.Mark.{Mark}
 use Rattle.pad_stroke.specs.Work.{Marked, empty}
 use Rattle.pad_branch.specs.declared.moved.Move.{Move}
 use Rattle.pad_chain.specs.Leads.{Leads}
 use Rattle.client_work.specs.Switch.{SentWorks, sent_as}
-use Rattle.client_work.specs.Carrying.{Ground, behind, behind_all, IsOnGround, IsCarried, AreCarried, AreReady}
+use Rattle.client_work.specs.Carrying.{Ground, behind_all, IsOnGround, IsCarried, AreCarried, AreReady}
 use Rattle.client_copy.specs.Held.{IsHeldOn}
 
 abbrev pub InsertsText : Operation → Type 0

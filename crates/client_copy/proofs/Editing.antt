@@ -1,16 +1,13 @@
 -- The work stays on its text as it is edited.
-use Rattle.std.proofs.Common.{◌≡◌, ◌≢◌, ℕ, ◌+◌, ◌≤◌, ◌⊎◌, inl, inr, List, length, refl, sym, ◌∙◌, ap, subst, arith, Option, Some, None}
+use Rattle.std.proofs.Common.{◌≡◌, ◌≢◌, ℕ, ◌+◌, inl, inr, List, length, sym, ◌∙◌, subst, arith, Option, Some, None}
 use Rattle.std.specs.List.{All, Contains}
 use Rattle.std.proofs.lemmas.List.Elements.{All-contains, All-contains_itself, All-weaker}
-use Rattle.pad_text.specs.declared.name.Name.{Name}
 use Rattle.pad_text.specs.Text.{IsText}
-use Rattle.pad_text.specs.Hash.{document_hash}
 use Rattle.pad_patch.specs.declared.operation.Operation.{Operation}
 use Rattle.pad_patch.specs.Piece.{text_after}
 use Rattle.pad_patch.specs.Misfit.{CanApply}
 use Rattle.pad_merge.specs.Laws.{AppliedPatchesMerge}
 use Rattle.pad_stroke.specs.declared.mark.Mark.{Mark}
-use Rattle.pad_stroke.specs.Mark.{marks_of}
 use Rattle.pad_stroke.specs.Work.{Marked}
 use Rattle.pad_stroke.specs.InTurn.{in_turn}
 use Rattle.pad_stroke.specs.Edit.{IsAllowed, typed, edited}

@@ -1,23 +1,20 @@
 -- The chain has received a message, and the work came along: the working copy stands for the machine's next state.
-use Rattle.std.proofs.Common.{◌≡◌, ◌≢◌, ℕ, ◌⊎◌, inl, inr, Bool, true, false, List, [], ◌∷◌, ◌++◌, refl, sym, ◌∙◌, ap, subst, Option, Some, None}
+use Rattle.std.proofs.Common.{◌≡◌, ℕ, inl, inr, Bool, true, false, List, [], ◌∷◌, ◌++◌, refl, sym, ◌∙◌, ap, subst}
 use Rattle.std.specs.List.{Contains}
 use Rattle.std.proofs.lemmas.List.Elements.{Contains-append_left, Contains-append_right, Contains-append_cases}
 use Rattle.pad_text.specs.declared.name.Name.{Name}
 use Rattle.pad_text.specs.Hash.{document_hash}
 use Rattle.pad_patch.specs.Laws.{FittingApplies, InverseGivesBack}
 use Rattle.pad_message.specs.declared.message.Message.{Message}
-use Rattle.pad_message.specs.declared.kind.Kind.TheVariants as kind
-use Rattle.pad_message.specs.Message.{name_of}
 use Rattle.pad_model.specs.declared.base.Base.{Base}
-use Rattle.pad_model.specs.Base.{first_base, Gives}
 use Rattle.pad_model.specs.Path.{text, NamesDiffer, IsPath}
-use Rattle.pad_model.specs.Choice.{Choice, IsChoice, first_choice}
+use Rattle.pad_model.specs.Choice.{Choice}
 use Rattle.pad_stroke.specs.Work.{Marked}
 use Rattle.pad_branch.specs.declared.moved.Move.{Move}
 use Rattle.pad_chain.specs.declared.moved.Moved.{Moved}
 use Rattle.pad_chain.specs.Moved.{moves_back}
 use Rattle.pad_chain.specs.Leads.{Leads}
-use Rattle.pad_chain.specs.Tie.{StandsFor, IsChosen, IsChosenNext}
+use Rattle.pad_chain.specs.Tie.{IsChosen, IsChosenNext}
 use Rattle.pad_chain.specs.Receive.{IsReceived}
 use Rattle.client_work.specs.Switch.{SentWorks, sent_as, Draft, switched}
 use Rattle.client_work.specs.Carrying.{AreInverses, all_moves}

@@ -1,8 +1,7 @@
 -- Moves that fit a text one after another.
-use Rattle.std.proofs.Common.{◌≡◌, ◌≢◌, ◌⊎◌, inl, inr, ℕ, ◌+◌, ◌<◌, ◌≤◌, Bool, true, false, true≢false, is_eq, List, [], ◌∷◌, ◌++◌, length, drop, get_or, refl, sym, ap, subst, ◌∙◌, arith}
+use Rattle.std.proofs.Common.{◌≡◌, inl, inr, ℕ, ◌+◌, ◌<◌, ◌≤◌, true, List, [], ◌∷◌, ◌++◌, length, drop, get_or, sym, ap, subst, ◌∙◌, arith}
 use Rattle.std.specs.Prelude.{◌↔◌}
 use Rattle.std.proofs.lemmas.List.{drop_more, drop_all, append-nil}
-use Rattle.pad_text.specs.declared.name.Name.{Name}
 use Rattle.pad_text.specs.Hash.{document_hash}
 use Rattle.pad_patch.specs.declared.patch.Patch.{Patch}
 use Rattle.pad_patch.specs.Piece.{text_after}
@@ -13,7 +12,6 @@ use Rattle.pad_chain.specs.declared.moved.Moved.{Moved}
 use Rattle.pad_chain.specs.Leads.{MoveFits, Leads}
 use Rattle.client_work.specs.Carrying.{all_moves}
 use Rattle.pad_message.specs.Kind.{is_checkpoint}
-use Rattle.pad_graph.specs.State.{name_cmp}
 use Rattle.pad_chain.proofs.CallerLemmas.{name_dec}
 
 -- so many moves are left, on the text after the others

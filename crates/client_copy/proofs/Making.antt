@@ -1,5 +1,5 @@
 -- A work is kept as what was sent as a message.
-use Rattle.std.proofs.Common.{◌≡◌, ℕ, ◌⊎◌, inl, inr, Bool, true, false, cond, is_eq, List, [], ◌∷◌, refl, sym, ◌∙◌, ap, subst, true≢false, Option, Some, None}
+use Rattle.std.proofs.Common.{◌≡◌, ℕ, inl, inr, Bool, true, false, cond, is_eq, List, [], ◌∷◌, refl, sym, ◌∙◌, ap, subst, true≢false, Option, Some}
 use Rattle.std.specs.List.{Contains}
 use Rattle.std.specs.BTreeMap.{BTreeMap, get, is_at, Updates}
 use Rattle.std.specs.Cmp.Lexicographic.{texts_ties, bytes_decides}

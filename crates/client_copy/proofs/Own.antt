@@ -1,6 +1,6 @@
 -- Own messages that leave the best chain: each is taken back as the work that was sent as it, and the work is made for each text
 -- to which it comes.
-use Rattle.std.proofs.Common.{◌≡◌, ℕ, ◌⊎◌, inl, inr, Bool, true, false, cond, List, [], ◌∷◌, ◌++◌, length, refl, sym, ◌∙◌, ap, subst, Option, Some, None}
+use Rattle.std.proofs.Common.{◌≡◌, ℕ, inl, inr, Bool, true, false, cond, List, [], ◌∷◌, ◌++◌, refl, sym, ◌∙◌, ap, subst, Option, Some, None}
 use Rattle.std.specs.List.{Contains}
 use Rattle.pad_text.specs.declared.name.Name.{Name}
 use Rattle.pad_text.specs.Hash.{document_hash}
@@ -21,7 +21,7 @@ use Rattle.pad_stroke.specs.InTurn.{in_turn}
 use Rattle.pad_stroke.specs.Through.{carried}
 use Rattle.pad_branch.specs.declared.moved.Move.{Move}
 use Rattle.pad_chain.specs.Moved.{moves_back}
-use Rattle.pad_chain.specs.Leads.{MoveFits, Leads}
+use Rattle.pad_chain.specs.Leads.{Leads}
 use Rattle.pad_chain.proofs.CallerLemmas.{name_dec}
 use Rattle.client_work.specs.Switch.{SentWorks, sent_as, Draft, taken_back, without_own, reverted, applied, in_order}
 use Rattle.client_work.specs.Carrying.{TakesBack, IsInverse, AreInverses}

@@ -1,7 +1,6 @@
 -- A repair's chain has taken the old one's place: the working copy stands for the state at the end of the repair.
-use Rattle.std.proofs.Common.{◌≡◌, ◌≢◌, ℕ, ◌+◌, ◌-◌, inl, inr, Bool, true, false, List, [], ◌∷◌, ◌++◌, length, take, drop, refl, sym, ◌∙◌, ap, subst, arith}
+use Rattle.std.proofs.Common.{◌≡◌, ℕ, ◌+◌, ◌-◌, inl, inr, Bool, true, false, List, [], ◌∷◌, ◌++◌, length, take, drop, refl, sym, ◌∙◌, ap, subst, arith}
 use Rattle.std.specs.Prelude.{flat_map}
-use Rattle.std.specs.List.{Contains}
 use Rattle.std.proofs.lemmas.List.{append-nil}
 use Rattle.pad_text.specs.declared.name.Name.{Name}
 use Rattle.pad_text.specs.Hash.{document_hash}
@@ -11,11 +10,9 @@ use Rattle.pad_patch.specs.declared.patch.Patch.{Patch}
 use Rattle.pad_patch.specs.Piece.{pieces_from, text_after}
 use Rattle.pad_patch.proofs.CallerLemmas.{units_of_piece, text_after-copy}
 use Rattle.pad_message.specs.declared.message.Message.{Message}
-use Rattle.pad_message.specs.Kind.{is_checkpoint}
-use Rattle.pad_message.specs.Message.{name_of}
 use Rattle.pad_model.specs.declared.base.Base.{Base}
 use Rattle.pad_model.specs.Base.{first_base, Gives}
-use Rattle.pad_model.specs.Path.{text, last_name, NamesDiffer, IsLinkedPath, IsPath}
+use Rattle.pad_model.specs.Path.{text, last_name, IsLinkedPath, IsPath}
 use Rattle.pad_model.specs.Choice.{Choice}
 use Rattle.pad_stroke.specs.Work.{Marked, empty}
 use Rattle.pad_chain.specs.declared.moved.Moved.{Moved}
@@ -28,7 +25,7 @@ use Rattle.client_work.specs.Carrying.{AreInverses, all_moves}
 use Rattle.client_copy.specs.Pad.{Pad, committed, best_name}
 use Rattle.client_copy.specs.State.{Copy}
 use Rattle.client_copy.specs.Repair.{noted, IsRepaired, LeadsToOldBest, EndsRepair, AreAmong}
-use Rattle.client_copy.specs.View.{View, NoClash, IsBaseOf, AreSentAs, StandsAs}
+use Rattle.client_copy.specs.View.{View, NoClash, IsBaseOf, StandsAs}
 use Rattle.client_copy.proofs.Following.{there, base_among, sent_among, chosen_path, came_along}
 
 -- ---- paths that end in one name have one text, from an adopted base or from the first one

@@ -1,6 +1,5 @@
 -- A work without operations takes the place of another on another text.
-use Rattle.std.proofs.Common.{◌≡◌, ℕ, ◌≤◌, List, length, sym, ◌∙◌, ap, subst}
-use Rattle.pad_text.specs.declared.name.Name.{Name}
+use Rattle.std.proofs.Common.{◌≡◌, ℕ, ◌≤◌, List, length, sym, ap, subst}
 use Rattle.pad_text.specs.Text.{IsText}
 use Rattle.pad_text.specs.Hash.{document_hash}
 use Rattle.pad_patch.specs.Misfit.{longest_text}

@@ -1,7 +1,6 @@
-use Rattle.std.proofs.Common.{◌≡◌, sym, ◌∙◌, ap, subst}
+use Rattle.std.proofs.Common.{sym, subst}
 use Rattle.pad_stroke.specs.Work.{Marked}
-use Rattle.client_work.specs.Switch.{Draft}
-use Rattle.client_work.specs.Carrying.{Ground, behind_all, IsOnGround, AreReady, AreInverses, all_moves}
+use Rattle.client_work.specs.Carrying.{AreReady, all_moves}
 use Rattle.client_copy.proofs.carrying.bring_along.Goals as goal
 
 pub carry-requires : goal.carry-requires

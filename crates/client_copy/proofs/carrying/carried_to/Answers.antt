@@ -1,4 +1,4 @@
-use Rattle.std.proofs.Common.{◌≡◌, ℕ, List, length, sym, ◌∙◌, ap, subst}
+use Rattle.std.proofs.Common.{◌≡◌, ℕ, List, sym, ◌∙◌, ap, subst}
 use Rattle.pad_text.specs.Hash.{document_hash}
 use Rattle.pad_stroke.specs.Work.{Marked, empty}
 use Rattle.pad_chain.specs.Leads.{Leads}

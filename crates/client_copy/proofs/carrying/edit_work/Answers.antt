@@ -1,4 +1,4 @@
-use Rattle.std.proofs.Common.{◌+◌, sym, subst, arith}
+use Rattle.std.proofs.Common.{sym, subst}
 use Rattle.pad_stroke.specs.Work.{Marked}
 use Rattle.client_copy.specs.Held.{IsHeldOn}
 use Rattle.client_copy.proofs.Behind.{short_fits}

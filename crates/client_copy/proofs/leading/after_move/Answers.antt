@@ -1,4 +1,4 @@
-use Rattle.std.proofs.Common.{◌≡◌, true≢false, refl, sym, ◌∙◌}
+use Rattle.std.proofs.Common.{true≢false, refl, sym, ◌∙◌}
 use Rattle.client_copy.proofs.LeftMoves.{move_fits, fits_of}
 use Rattle.client_copy.proofs.leading.after_move.Goals as goal
 use Rattle.client_copy.proofs.leading.after_move.Goals.{else-is_checkpoint-via-then-is_checkpoint+else-not-is_same_text, else-is_checkpoint-via-else-is_checkpoint}

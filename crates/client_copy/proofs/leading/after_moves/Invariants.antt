@@ -1,5 +1,5 @@
 -- the moves that are left fit the text as all of them fit the first one
-use Rattle.std.proofs.Common.{◌≡◌, ℕ, ◌≤◌, ◌+◌, drop}
+use Rattle.std.proofs.Common.{◌≤◌, ◌+◌, drop}
 use Rattle.client_copy.proofs.LeftMoves.{LeftFrom}
 use Rattle.client_copy.proofs.leading.after_moves.Given as goal
 

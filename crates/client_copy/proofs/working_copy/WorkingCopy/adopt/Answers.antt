@@ -1,5 +1,4 @@
-use Rattle.std.proofs.Common.{◌≡◌, ◌∷◌, ℕ, List, [], false, refl, sym, ◌∙◌, ap, subst}
-use Rattle.std.proofs.lemmas.Result.{IfOk-at_ok}
+use Rattle.std.proofs.Common.{[], false, refl, sym, ◌∙◌, ap, subst}
 use Rattle.pad_patch.specs.Misfit.{CanApply}
 use Rattle.pad_model.specs.Choice.{first_choice}
 use Rattle.pad_checkpoint.specs.declared.place.Place.{Place}

@@ -1,4 +1,4 @@
-use Rattle.std.proofs.Common.{ℕ, List, [], ◌∷◌, length, refl, sym, ◌∙◌, ap, subst, ◌≤◌, arith}
+use Rattle.std.proofs.Common.{ℕ, List, [], ◌∷◌, length, sym, ◌∙◌, ap, subst}
 use Rattle.pad_message.specs.declared.kind.Kind.TheVariants as kind
 use Rattle.pad_checkpoint.specs.declared.place.Place.{Place}
 use Rattle.pad_patch.specs.declared.operation.Operation.{Operation}

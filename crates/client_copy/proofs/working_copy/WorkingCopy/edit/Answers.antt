@@ -1,4 +1,4 @@
-use Rattle.std.proofs.Common.{List, ℕ, sym, ap, subst}
+use Rattle.std.proofs.Common.{List, ℕ, sym, subst}
 use Rattle.client_copy.specs.Held.{IsHeldOn}
 use Rattle.client_copy.proofs.working_copy.WorkingCopy.edit.Goals as goal
 

@@ -1,4 +1,4 @@
-use Rattle.std.proofs.Common.{◌≡◌, Bool, true, false, List, ℕ, refl, sym, ◌∙◌, ap, subst}
+use Rattle.std.proofs.Common.{◌≡◌, true, false, List, ℕ, refl, sym, ◌∙◌, ap, subst}
 use Rattle.pad_text.specs.Hash.{document_hash}
 use Rattle.pad_checkpoint.specs.declared.place.Place.{Place}
 use Rattle.pad_model.specs.Base.{first_base}

@@ -1,20 +1,15 @@
-use Rattle.std.proofs.Common.{◌≡◌, ◌∷◌, ℕ, ◌+◌, ◌≤◌, Bool, List, [], length, refl, sym, ◌∙◌, ap, subst}
+use Rattle.std.proofs.Common.{◌≡◌, ◌∷◌, ℕ, ◌+◌, ◌≤◌, Bool, length, refl, sym, ◌∙◌, ap, subst}
 use Rattle.std.proofs.lemmas.Result.{err_from_is_err_and}
 use Rattle.pad_text.specs.declared.name.Name.{Name}
-use Rattle.pad_model.specs.Path.{NamesDiffer}
-use Rattle.pad_patch.specs.declared.operation.Operation.{Operation}
-use Rattle.pad_stroke.specs.Work.{Marked, empty, moved_to}
+use Rattle.pad_stroke.specs.Work.{Marked, moved_to}
 use Rattle.pad_branch.specs.Branch as branch
 use Rattle.pad_chain.specs.State as chains
 use Rattle.pad_chain.specs.Tie.{StandsFor}
 use Rattle.pad_chain.specs.Knows.{Knows}
 use Rattle.client_work.specs.Switch.{SentWorks}
 use Rattle.client_work.specs.Carrying.{all_moves}
-use Rattle.client_copy.specs.State.{Copy}
-use Rattle.client_copy.specs.Pad.{committed}
 use Rattle.client_copy.specs.Held.{IsHeldOn}
-use Rattle.client_copy.specs.Receive.{Follows}
-use Rattle.client_copy.specs.View.{View, NoClash, StandsAs}
+use Rattle.client_copy.specs.View.{View, StandsAs}
 use Rattle.client_copy.proofs.Behind.{ground_on, ready_of, along_held, removes_none}
 use Rattle.client_copy.proofs.Following.{differ_among, more_among, followed}
 use Rattle.client_copy.proofs.working_copy.WorkingCopy.receive.Goals as goal
