@@ -13,3 +13,6 @@ mod leading;
 mod working_copy;
 
 pub use working_copy::WorkingCopy;
+
+#[cfg(test)]
+mod tests;
