@@ -6,7 +6,7 @@ usage: bench/channels.py [--folder FOLDER] [--program PATH] [--scale N] [ROW ..]
 `bench/plain.c` is the plain server, `bench/load.c` the clients; a C compiler, `cc`, makes both. All files are in FOLDER, a temporary one if there is
 none: the figures of a real disk and those of a file system in memory differ much. `--scale 0.1` makes every row a tenth as large. Rows, all if none is named:
 
-  window    the median of an acknowledged message at a window of one: padnet, plain, and the bare four file calls
+  window    the median of an acknowledged message at a window of one: padnet, plain, and the bare four file calls; and of a ping
   spread    deliveries a second to 1,000 readers of one channel
   history   a history of 100,000 entries, in bytes a second
   load      a log of 1 GiB: the time until a first question is answered, and that of reading the file, read before or not
@@ -97,7 +97,7 @@ def let_go(process):
 
 
 def name_of(server):
-    return "%s:%d" % server.address
+    return "%s:%d/%d" % (*server.address, server.process.pid)
 
 
 def kill(*servers):
@@ -128,19 +128,26 @@ def two_servers(bench, row, *words):
 
 
 def window(bench):
-    (padnet, plain), got = two_servers(bench, "window", bench.count(500), 100, bench.folder)
-    times = [got[name, "seconds"] for name in (name_of(padnet), name_of(plain), "bare")]
-    for name, (middle, low, high) in zip(("padnet", "plain", "bare calls"), times):
-        print(f"  {name}: median {middle * 1e6:.0f} us, a tenth below {low * 1e6:.0f}, a tenth above {high * 1e6:.0f}")
-    print(f"  padnet to plain {times[0][0] / times[1][0]:.2f}, to the bare calls {times[0][0] / times[2][0]:.2f}")
+    (padnet, plain), got = two_servers(bench, "window", bench.count(1000), 100, bench.folder)
+    mine, other = name_of(padnet), name_of(plain)
+    rows = {"padnet": (mine, "seconds"), "plain": (other, "seconds"), "bare calls": ("bare", "seconds")}
+    rows |= {"ping of padnet": (mine, "ping"), "ping of plain": (other, "ping")}
+    for name, key in rows.items():
+        middle, low, high, mean = (figure * 1e6 for figure in got[key])
+        print(f"  {name}: median {middle:.0f} us, a tenth below {low:.0f}, a tenth above {high:.0f}, mean {mean:.0f}")
+    for at, what in ((0, "medians"), (3, "means")):
+        message, simple, bare, ping, pong = (got[key][at] for key in rows.values())
+        print(f"  by {what}: a message of padnet to one of plain {message / simple:.2f}", end="")
+        print(f"; less a ping, which stores nothing, {(message - ping) / (simple - pong):.2f}, and to the bare calls {(message - ping) / bare:.2f}")
 
 
 def spread(bench):
     (padnet, plain), got = two_servers(bench, "spread", bench.count(1000), 20, 100, 15)
-    rates = [got[name_of(server), "deliveries"][0] for server in (padnet, plain)]
-    joins = [float(got[name_of(server), "joins"][0]) for server in (padnet, plain)]
-    print(f"  deliveries a second: padnet {rates[0]:,.0f}, plain {rates[1]:,.0f}, ratio {rates[0] / rates[1]:.2f}")
-    print(f"  texts a second while all join: padnet {joins[0]:,.0f}, plain {joins[1]:,.0f}, ratio {joins[0] / joins[1]:.2f}")
+    for what, unit in (("deliveries", "deliveries a second"), ("joins", "texts a second while all join")):
+        mine, other = (got[name_of(server), what][0] for server in (padnet, plain))
+        print(f"  {unit}: padnet {mine:,.0f}, plain {other:,.0f}, ratio {mine / other:.2f}")
+    mine, other = (got[name_of(server), "processor"][0] * 1e6 for server in (padnet, plain))
+    print(f"  processor time of a delivery: padnet {mine:.2f} us, plain {other:.2f}, ratio {other / mine:.2f}")
 
 
 def write_log(path, count, bytes_each):
@@ -168,9 +175,13 @@ def history(bench):
         got = bench.run("history", channel, 15, *map(name_of, servers))
         rates = [got[name_of(server), "bytes"][0] for server in servers]
         most = [memory(server, "VmHWM") / MIB for server in servers]
+        cost = [got[name_of(server), "processor"][0] * 1e6 for server in servers]
         kill(*servers)
-        print(f"  contents of {size} bytes, {int(got['texts']) - 2} entries: padnet {rates[0] / MIB:.0f} MiB/s, plain {rates[1] / MIB:.0f}, ratio {rates[0] / rates[1]:.2f}", end="")
-        print(f"; plain with calls for each entry {rates[2] / MIB:.0f}, ratio {rates[0] / rates[2]:.2f}; memory of padnet at most {most[0]:.0f} MiB")
+        print(f"  contents of {size} bytes, {int(got['texts']) - 2} entries; memory of padnet at most {most[0]:.0f} MiB")
+        print("  MiB a second: padnet {:.0f}, plain {:.0f}, plain with calls for each entry {:.0f}".format(*(it / MIB for it in rates)), end="")
+        print(f", ratios {rates[0] / rates[1]:.2f} and {rates[0] / rates[2]:.2f}")
+        print("  processor time of an entry: {:.2f}, {:.2f}, {:.2f} us".format(*cost), end="")
+        print(f", ratios {cost[1] / cost[0]:.2f} and {cost[2] / cost[0]:.2f}")
 
 
 def read_all(path):
@@ -212,27 +223,31 @@ def load(bench):
             most = max(most, memory(server, "VmHWM"))
             kill(server)
         middle = statistics.median
-        print(f"  {size / MIB:.0f} MiB {kind}: loaded in {middle(loads):.2f} s ({middle(cost):.2f} of processor time), read in {middle(reads):.2f}", end="")
-        print(f", speed {middle(reads) / middle(loads):.2f} of reading; memory at most {most / MIB:.0f} MiB for {count} entries")
+        print(f"  {size / MIB:.0f} MiB {kind}: loaded in {middle(loads):.2f} s ({middle(cost):.2f} of processor time)", end="")
+        print(f", read in {middle(reads):.2f}, speed {middle(reads) / middle(loads):.2f} of reading; memory at most {most / MIB:.0f} MiB for {count} entries")
 
 
 def log(bench):
     channel, count = fresh(), bench.count(100_000)
     folder = bench.new_folder()
     folder.mkdir()
+    path, out = folder / (channel + ".padlog2"), folder / "out"
     for size in (100, 1000):
-        path = folder / (channel + ".padlog2")
         bytes_in = write_log(path, count, size)
-        times = {"padnet": [], "copy": []}
-        out = folder / "out"
-        for _ in range(7):
-            for name, words in (("padnet", [bench.program, "log", str(folder), channel]), ("copy", ["cat", str(path)])):
-                with open(out, "wb") as file:
-                    began = time.perf_counter()
-                    subprocess.run(words, stdout=file, check=True)
-                    times[name].append(time.perf_counter() - began)
-        mine, bare = (statistics.median(times[name]) for name in ("padnet", "copy"))
-        print(f"  contents of {size} bytes, {bytes_in / MIB:.0f} MiB: padnet log {mine * 1000:.0f} ms, cat {bare * 1000:.0f} ms, speed {bare / mine:.2f} of a copy")
+        for kind, before in (("from the disk", forget), ("read before", read_all)):
+            times = {"padnet": [], "copy": []}
+            for _ in range(7):
+                for name, words in (("padnet", [bench.program, "log", str(folder), channel]), ("copy", ["cat", str(path)])):
+                    before(path)
+                    with open(out, "wb") as file:
+                        began = time.perf_counter()
+                        run = subprocess.Popen(words, stdout=file)
+                        _, run.returncode, usage = os.wait4(run.pid, 0)
+                        assert run.returncode == 0
+                        times[name].append((time.perf_counter() - began, usage.ru_utime + usage.ru_stime))
+            (mine, used), (bare, copying) = ([statistics.median(it) * 1000 for it in zip(*times[name])] for name in ("padnet", "copy"))
+            print(f"  contents of {size} bytes, {bytes_in / MIB:.0f} MiB {kind}: padnet log {mine:.0f} ms ({used:.0f} of processor time)", end="")
+            print(f", cat {bare:.0f} ({copying:.0f}), speed {bare / mine:.2f} of a copy")
 
 
 def idle(bench):

@@ -1,13 +1,15 @@
 /* The clients of a server of channels, to measure it with: `bench/channels.py` runs them.
 
-   usage: load window COUNT BYTES FOLDER ADDRESS ..            the time of an acknowledged message at each address in turn, and of the bare file calls in FOLDER
+   usage: load window COUNT BYTES FOLDER ADDRESS ..            the time of an acknowledged message and of a ping at each address in turn, and of the bare
+                                                                file calls in FOLDER
           load spread READERS MESSAGES BYTES ROUNDS ADDRESS ..  the messages at each address in turn, and until each reader has each of them
           load history CHANNEL ROUNDS ADDRESS ..                a whole history of each address in turn
           load hold COUNT ADDRESS                               connections that are silent until standard input ends
           load slow READERS MESSAGES BYTES ADDRESS              readers that read nothing, and a writer
           load bare COUNT BYTES FOLDER                          the bare file calls alone
 
-   Each row is a name, and seconds or bytes a second. */
+   ADDRESS is IP:PORT, and may have a slash and the number of the server's process behind it: then its processor time is told too. Each row is a name, what
+   it tells, and one number, or a median, the tenths below and above it, and the mean. */
 
 #define _GNU_SOURCE
 #include <arpa/inet.h>
@@ -44,6 +46,20 @@ static double now(void) {
     struct timespec time;
     clock_gettime(CLOCK_MONOTONIC, &time);
     return time.tv_sec + time.tv_nsec / 1e9;
+}
+
+/* The seconds of processor time that the server of an address has taken so far, if its process is named. */
+static double used(const char *address) {
+    const char *process = strchr(address, '/');
+    char path[64];
+    double nanoseconds = 0;
+    FILE *file;
+    if (!process) return 0;
+    snprintf(path, sizeof path, "/proc/%.20s/schedstat", process + 1);
+    if (!(file = fopen(path, "r"))) ended(path);
+    if (fscanf(file, "%lf", &nanoseconds) != 1) ended(path);
+    fclose(file);
+    return nanoseconds / 1e9;
 }
 
 static int by_size(const void *a, const void *b) {
@@ -124,7 +140,8 @@ static void say(struct peer *p, const char *text) {
 /* A connection to IP:PORT, after its handshake and its identity. With `buffer` the system keeps so many bytes for it that it has not read. */
 static struct peer entered(const char *address, int buffer) {
     static const char request[] =
-        "GET / HTTP/1.1\r\nHost: localhost\r\nUpgrade: websocket\r\nConnection: Upgrade\r\nSec-WebSocket-Key: dGhlIHNhbXBsZSBub25jZQ==\r\nSec-WebSocket-Version: 13\r\n\r\n";
+        "GET / HTTP/1.1\r\nHost: localhost\r\nUpgrade: websocket\r\nConnection: Upgrade\r\n"
+        "Sec-WebSocket-Key: dGhlIHNhbXBsZSBub25jZQ==\r\nSec-WebSocket-Version: 13\r\n\r\n";
     struct sockaddr_in to = {.sin_family = AF_INET};
     char ip[64], *text;
     int port, yes = 1;
@@ -203,41 +220,48 @@ static void append(struct bare *b) {
 }
 
 static void tell(const char *name, const char *what, double *figures, int count) {
-    double middle = median(figures, count);
-    printf("%s %s %.9g %.9g %.9g\n", name, what, middle, figures[count / 10], figures[count * 9 / 10]);
+    double middle = median(figures, count), sum = 0;
+    for (int i = 0; i < count; i++) sum += figures[i];
+    printf("%s %s %.9g %.9g %.9g %.9g\n", name, what, middle, figures[count / 10], figures[count * 9 / 10], sum / count);
     fflush(stdout);
 }
 
+static void ask(struct peer *p, const char *words, const char *wanted) {
+    char *text;
+    say(p, words);
+    size_t size = hear(p, &text);
+    if (size != strlen(wanted) || memcmp(text, wanted, size)) ended("an answer");
+}
+
 static void window(int count, int bytes, const char *folder, char **addresses, int places) {
-    struct peer peers[places];
-    double *times[places + 1];
+    struct peer peers[places + 1];
+    int kinds = 2 * places + 1;
+    double *times[kinds];
     char channel[33], keeper[17], *text, *message;
     struct bare bare = bare_in(folder, bytes);
     channel_name(channel);
     message = message_of(channel, bytes);
-    for (int i = 0; i <= places; i++) times[i] = calloc(count, sizeof **times);
+    for (int i = 0; i < kinds; i++) times[i] = calloc(count, sizeof **times);
     for (int i = 0; i < places; i++) {
         peers[i] = entered(addresses[i], 0);
         join(&peers[i], channel, keeper);
         hear(&peers[i], &text);
-        say(&peers[i], message);
-        hear(&peers[i], &text);
+        ask(&peers[i], message, "[2,\"ACK\"]");
     }
     for (int turn = 0; turn < count; turn++)
-        for (int place = 0; place <= places; place++) {
-            int which = (turn + place) % (places + 1);
+        for (int place = 0; place < kinds; place++) {
+            int which = (turn / 2 + (turn % 2 ? kinds - 1 - place : place)) % kinds; /* forwards and backwards, from each on */
             double begun = now();
-            if (which == places) {
-                append(&bare);
-            } else {
-                say(&peers[which], message);
-                size_t size = hear(&peers[which], &text);
-                if (!is_ack(text, size)) ended("an answer");
-            }
+            if (which == 2 * places) append(&bare);
+            else if (which < places) ask(&peers[which], message, "[2,\"ACK\"]");
+            else ask(&peers[which - places], "[3,\"PING\"]", "[3,\"ACK\"]");
             times[which][turn] = now() - begun;
         }
-    for (int i = 0; i < places; i++) tell(addresses[i], "seconds", times[i], count);
-    tell("bare", "seconds", times[places], count);
+    for (int i = 0; i < places; i++) {
+        tell(addresses[i], "seconds", times[i], count);
+        tell(addresses[i], "ping", times[places + i], count);
+    }
+    tell("bare", "seconds", times[2 * places], count);
 }
 
 /* Reads over all connections until so many texts more came over each. */
@@ -283,6 +307,8 @@ static void spread(int readers, int messages, int bytes, int rounds, char **addr
         drain(epolls[i], peers[i], readers + 1, readers + 3);
         printf("%s joins %.9g\n", addresses[i], (readers + 1.0) * (readers + 3) / (now() - begun));
     }
+    double before[places];
+    for (int i = 0; i < places; i++) before[i] = used(addresses[i]);
     for (int turn = 0; turn < rounds; turn++)
         for (int place = 0; place < places; place++) {
             int which = (turn + place) % places;
@@ -291,7 +317,10 @@ static void spread(int readers, int messages, int bytes, int rounds, char **addr
             drain(epolls[which], peers[which], readers + 1, messages);
             rates[which][turn] = (double)readers * messages / (now() - begun);
         }
-    for (int i = 0; i < places; i++) tell(addresses[i], "deliveries", rates[i], rounds);
+    for (int i = 0; i < places; i++) {
+        tell(addresses[i], "deliveries", rates[i], rounds);
+        printf("%s processor %.9g\n", addresses[i], (used(addresses[i]) - before[i]) / rounds / messages / readers);
+    }
 }
 
 /* Asks for a whole history, and gives how many bytes came, and how many texts. */
@@ -310,6 +339,7 @@ static unsigned long whole(struct peer *p, const char *channel, const char *keep
 static void history(const char *channel, int rounds, char **addresses, int places) {
     struct peer peers[places];
     double *rates[places];
+    double before[places];
     char keepers[places][17], *text;
     unsigned long texts;
     for (int i = 0; i < places; i++) {
@@ -320,6 +350,7 @@ static void history(const char *channel, int rounds, char **addresses, int place
         double begun = now();
         whole(&peers[i], channel, keepers[i], &texts);
         printf("%s first %.9g\n", addresses[i], now() - begun);
+        before[i] = used(addresses[i]);
     }
     for (int turn = 0; turn < rounds; turn++)
         for (int place = 0; place < places; place++) {
@@ -329,7 +360,10 @@ static void history(const char *channel, int rounds, char **addresses, int place
             rates[which][turn] = bytes / (now() - begun);
         }
     printf("texts %lu\n", texts);
-    for (int i = 0; i < places; i++) tell(addresses[i], "bytes", rates[i], rounds);
+    for (int i = 0; i < places; i++) {
+        tell(addresses[i], "bytes", rates[i], rounds);
+        printf("%s processor %.9g\n", addresses[i], (used(addresses[i]) - before[i]) / rounds / texts);
+    }
 }
 
 static void wait_for_end(void) {

@@ -2,8 +2,8 @@
 
    usage: plain IP:PORT FOLDER [apart]
 
-   It knows JOIN, MSG and the question GET_FULL_HISTORY, takes well-formed texts alone, and ends where anything fails. A message is stored by four calls: a
-   write of the entry, a sync, a write of the gate, a sync. A text to many readers is made once. A history is read from the file again each time, in one piece, and sent so;
+   It knows PING, JOIN, MSG and the question GET_FULL_HISTORY, takes well-formed texts alone, and ends where anything fails. A message is stored by four
+   calls: a write of the entry, a sync, a write of the gate, a sync. A text to many readers is made once. A history is read from the file again each time, in one piece, and sent so;
    with `apart` it is read by a call for each entry, and each text is sent by a call. */
 
 #define _GNU_SOURCE

@@ -1,4 +1,5 @@
-// Tries `padnet serve` with a client over another WebSocket library, that of Node.js: the server is killed by signal 9 while it acknowledges, and started again.
+// Tries `padnet serve` with a client over another WebSocket library, that of Node.js: the server is killed by signal 9 while it acknowledges, and is
+// started again.
 //
 // usage: node --experimental-websocket tests/outside.mjs [KILLS [PROGRAM]]     (Node.js 22 and later need no flag)
 //
@@ -167,7 +168,8 @@ try {
       const heard = state.heard.every((entry) => there.has(entry));
       if (!same || told.length < state.acknowledged || told.length > state.sent.length || !heard) {
         differ++;
-        console.log(`DIFFERS after kill ${turn + 1}: ${state.acknowledged} acknowledged, ${told.length} in the history, ${state.sent.length} sent, in order ${same}, heard ${heard}`);
+        const counts = `${state.acknowledged} acknowledged, ${told.length} in the history, ${state.sent.length} sent`;
+        console.log(`DIFFERS after kill ${turn + 1}: ${counts}, in order ${same}, heard ${heard}`);
       }
       beyond += told.length - state.acknowledged;
       state.sent = told;
@@ -182,5 +184,6 @@ try {
   rmSync(folder, { recursive: true });
 }
 const all = [...states.values()].reduce((sum, state) => sum + state.all, 0);
-console.log(`${kills} kills; ${all} messages were acknowledged, and ${beyond} more were stored whose acknowledgement was not heard; ${differ ? `${differ} histories differ` : "all agree"}`);
+const unheard = `${beyond} more were stored whose acknowledgement was not heard`;
+console.log(`${kills} kills; ${all} messages were acknowledged, and ${unheard}; ${differ ? `${differ} histories differ` : "all agree"}`);
 process.exitCode = differ || !all ? 1 : 0;
