@@ -31,7 +31,7 @@ ack_last before number acknowledges after (inr (other, (inr hears))) = ap (λ (s
 end_last : (asked : Asked) (before : State) (total : ℕ) (answer : Heard) (after : State) → HearsEnd asked before total answer after → after.last ≡ before.last
 end_last Nothing before total answer after hears = ap (λ (s : State). s.last) hears.state
 end_last (History number fresh) before total answer after hears = ap (λ (s : State). s.last) hears.1
-end_last (Repair number) before total answer after hears = ap (λ (s : State). s.last) hears.1
+end_last (Repair number) before total answer after hears = ap (λ (s : State). s.last) hears.state
 
 unknown_last : (asked : Asked) (before : State) (answer : Heard) (after : State) → HearsUnknown asked before answer after → after.last ≡ before.last
 unknown_last Nothing before answer after hears = ap (λ (s : State). s.last) hears.state

@@ -1,5 +1,5 @@
 -- An edit of the working copy is one of the client.
-use Rattle.std.proofs.Common.{◌≡◌, ◌+◌, false, List, ℕ, length, refl, sym, ◌∙◌, ap, subst}
+use Rattle.std.proofs.Common.{◌≡◌, ◌+◌, false, Option, List, ℕ, length, refl, sym, ◌∙◌, ap, subst}
 use Rattle.pad_patch.specs.declared.operation.Operation.{Operation}
 use Rattle.pad_patch.specs.Piece.{text_after}
 use Rattle.pad_stroke.specs.declared.edit_refused.EditRefused as stroke
@@ -18,7 +18,8 @@ use Rattle.pad_client.specs.State.{ClientState}
 use Rattle.pad_client.specs.Refusal.{IsEditCause}
 use Rattle.pad_client.specs.Calls.{Edits}
 use Rattle.pad_client.specs.Inside.Refused.{is_edit_refused}
-use Rattle.pad_client.specs.View.{View, StandsAs}
+use Rattle.pad_client.specs.View.{View, StandsAs, StandsAsRepairs}
+use Rattle.pad_chain.specs.State as chains
 use Rattle.pad_client.proofs.Standing.{HasRest}
 
 pub edit_cause : (requests : requested.State) (shown : List ℕ) (operation : Operation) (cause : stroke.EditRefused) → repairs requests.asked ≡ false → IsCause shown operation cause
@@ -57,5 +58,5 @@ client_edited held new client operation stands same quiet edits rest requests =
     let given = copy_edited held.copy new.copy client.copy operation stands.copy same edits in (
       record client { copy = given.0 },
       record { quiet = ap (λ (r : requested.State). repairs r.asked) (sym stands.requests) ∙ quiet; edited = given.0; edits = given.1; state = refl },
-      record { copy = given.2; unreadable = rest.unreadable ∙ stands.unreadable; wanted = rest.wanted ∙ stands.wanted; requests = requests ∙ stands.requests; synced = rest.synced ∙ stands.synced },
+      record { copy = given.2; unreadable = rest.unreadable ∙ stands.unreadable; wanted = rest.wanted ∙ stands.wanted; requests = requests ∙ stands.requests; repair = subst (λ (r : Option chains.View). StandsAsRepairs client.copy.pad.all r client.repair) (sym rest.repair) stands.repair; synced = rest.synced ∙ stands.synced },
     )

@@ -1,4 +1,7 @@
+mod Noting
+mod Begun
 mod Standing
+mod Ending
 mod Taking
 mod Addressed
 mod Editing

@@ -18,7 +18,10 @@ use Rattle.client_requests.specs.Calls.{Sends}
 use Rattle.pad_client.specs.State.{ClientState}
 use Rattle.pad_client.specs.Refusal.{made_of}
 use Rattle.pad_client.specs.Sync.{own_messages, Makes, SendsWork, SendsBoth}
-use Rattle.pad_client.specs.View.{View, StandsAs}
+use Rattle.pad_client.specs.View.{View, StandsAs, StandsAsRepairs}
+use Rattle.pad_client.proofs.Noting.{one_came, more_came}
+use Rattle.pad_chain.specs.State as chains
+use Rattle.client_copy.specs.Repair.{AreAmong}
 
 -- ---- names
 
@@ -67,15 +70,20 @@ made held new client message wire moved copy stands sends makes = record {
 }
 
 pub stands_made : (held new : View) (client : ClientState) (moved : Moved) (copy : Copy) (wanted : Option ℕ) → StandsAs held client → seen.StandsAs new.copy copy
-    → new.unreadable ≡ held.unreadable → new.wanted ≡ wanted → new.synced ≡ held.synced ++ moved.applied
+    → AreAmong client.copy.pad.all copy.pad.all → new.unreadable ≡ held.unreadable → new.wanted ≡ wanted → new.repair ≡ held.repair → new.synced ≡ held.synced ++ moved.applied
     → StandsAs new (record client { copy = copy; wanted = wanted; requests = new.requests; synced = client.synced ++ moved.applied })
-stands_made held new client moved copy wanted stands copy_stands unreadable is synced = record {
+stands_made held new client moved copy wanted stands copy_stands among unreadable is repair synced = record {
   copy = copy_stands;
   unreadable = unreadable ∙ stands.unreadable;
   wanted = is;
   requests = refl;
+  repair = subst (λ (r : Option chains.View). StandsAsRepairs copy.pad.all r client.repair) (sym repair) (more_came client.copy.pad.all copy.pad.all held.repair client.repair among stands.repair);
   synced = synced ∙ ap (λ moves. moves ++ moved.applied) stands.synced;
 }
+
+-- what was made is one message more
+pub made_all : (before : Copy) (message : Message) (moved : Moved) (after : Copy) → copies.Makes before message moved after → AreAmong before.pad.all after.pad.all
+made_all before message moved after makes = one_came before.pad.all after.pad.all message (ap (λ (c : Copy). c.pad.all) makes.state ∙ makes.received.all)
 
 -- ---- the texts
 
@@ -168,7 +176,7 @@ made_one (operation ∷ operations) due some is = ap (made_of (operation ∷ ope
 -- ---- a client that was begun anew to sync
 
 pub begun : (held : View) (client : ClientState) (none : List Move) → none ≡ [] → StandsAs held client → StandsAs (record held { synced = none }) (record client { synced = [] })
-begun held client none is stands = record { copy = stands.copy; unreadable = stands.unreadable; wanted = stands.wanted; requests = stands.requests; synced = is }
+begun held client none is stands = record { copy = stands.copy; unreadable = stands.unreadable; wanted = stands.wanted; requests = stands.requests; repair = stands.repair; synced = is }
 
 -- ---- a copy of a message is received
 

@@ -13,7 +13,8 @@ use Rattle.client_requests.specs.State as requested
 use Rattle.client_requests.specs.Hear.{Either, Forgets, HearsMember, HearsKeeper, HearsAck, with_nothing_asked}
 use Rattle.pad_client.specs.declared.heard.Heard.{Heard}
 use Rattle.pad_client.specs.declared.heard.Heard.TheVariants as heard
-use Rattle.pad_client.specs.State.{ClientState, with_requests}
+use Rattle.pad_client.specs.State.{ClientState}
+use Rattle.pad_client.specs.Repair.{with_answered, HearsRepaired}
 use Rattle.pad_client.specs.Content.{MeetsFull, HearsContent}
 
 -- ---- replies that bring no content: what they do to the requests, and the answer
@@ -32,11 +33,11 @@ HearsWho before (who.Keeper id) channel answer after = (answer ≡ heard.Ignored
 abbrev pub HearsAcked : requested.State → ℕ → Heard → requested.State → Type 0
 HearsAcked before number answer after = (acknowledges : Bool) × HearsAck before number acknowledges after × (answer ≡ (if acknowledges then heard.Acked number else heard.Ignored))
 
--- the end of a history of its channel, with its total. No call begins a repair yet.
+-- the end of a history of its channel, with its total, while no repair runs
 abbrev pub HearsEnd : Asked → requested.State → ℕ → Heard → requested.State → Type 0
 HearsEnd Nothing before total answer after = Ignores before answer after
 HearsEnd (History number fresh) before total answer after = (answer ≡ heard.End total) × (after ≡ with_nothing_asked before)
-HearsEnd (Repair number) before total answer after = (answer ≡ heard.End total) × (after ≡ with_nothing_asked before)
+HearsEnd (Repair number) before total answer after = Ignores before answer after
 
 -- the keeper does not know the key
 abbrev pub HearsUnknown : Asked → requested.State → Heard → requested.State → Type 0
@@ -93,11 +94,30 @@ HearsAddressed before addressed answer after =
 
 -- ---- all replies, and all texts
 
+-- the reply is the end of a history of its channel while a repair runs, which has received these messages
+abbrev pub IsRepairsEnd : ClientState → Reply → List Message → Type 0
+IsRepairsEnd client (reply.HistoryEnd keeper channel total) received = (client.requests.channel ≡ Some channel) × (client.repair ≡ Some received)
+IsRepairsEnd client (reply.Ident id) received = ⊥
+IsRepairsEnd client (reply.Error number word about) received = ⊥
+IsRepairsEnd client (reply.Member who channel) received = ⊥
+IsRepairsEnd client (reply.Ack number) received = ⊥
+IsRepairsEnd client (reply.HistoryUnknown keeper channel key) received = ⊥
+IsRepairsEnd client (reply.Joined number channel) received = ⊥
+IsRepairsEnd client (reply.Gone id channel reason) received = ⊥
+IsRepairsEnd client (reply.Entry keeper channel index moment sender content) received = ⊥
+IsRepairsEnd client (reply.Msg id target content) received = ⊥
+IsRepairsEnd client (reply.History keeper channel index sender content) received = ⊥
+
 -- what a reply does, and the answer
 pub data HearsReply (before : ClientState) (said : Reply) : Heard → ClientState → Type 0 where
   is_content : (addressed : Addressed) (answer : Heard) (after : ClientState) → content_of said ≡ Some addressed → HearsAddressed before addressed answer after
       → HearsReply before said answer after
-  is_about : (answer : Heard) (requests : requested.State) → HearsAbout before.requests said answer requests → HearsReply before said answer (with_requests requests before)
+  -- a repair ends
+  is_repaired : (received : List Message) (found : Bool) (after : ClientState) → IsRepairsEnd before said received → HearsRepaired before received found after
+      → HearsReply before said (heard.Repaired found) after
+  -- any other; it may give a repair up
+  is_about : (answer : Heard) (requests : requested.State) → ((received : List Message) → ¬ (IsRepairsEnd before said received)) → HearsAbout before.requests said answer requests
+      → HearsReply before said answer (with_answered requests before)
 
 -- what a text does, and the answer
 pub data Hears (before : ClientState) (text : List ℕ) : Heard → ClientState → Type 0 where

@@ -2,6 +2,7 @@ pub mod State
 pub mod Refusal
 pub mod Calls
 pub mod Sync
+pub mod Repair
 pub mod Content
 pub mod Hear
 pub mod View

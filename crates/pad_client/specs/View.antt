@@ -1,15 +1,34 @@
 -- What contracts see of a client: the state with what they see of its working copy.
-use Rattle.std.specs.Prelude.{◌≡◌, ℕ, ◌^◌, ◌-◌, min, List, ◌∷◌}
+use Rattle.std.specs.Prelude.{◌≡◌, ℕ, ◌^◌, ◌-◌, min, true, Option, Some, None, List, ◌∷◌}
 use Rattle.pad_message.specs.declared.message.Message.{Message}
 use Rattle.pad_message.specs.Content.{Reads}
 use Rattle.netflux_codec.specs.declared.reply.Reply.{Reply}
+use Rattle.pad_model.specs.Base.{first_base}
+use Rattle.pad_model.specs.Choice.{Choice}
+use Rattle.pad_chain.specs.State as chains
+use Rattle.pad_chain.specs.Tie.{StandsFor}
+use Rattle.client_copy.specs.Repair.{AreAmong}
 use Rattle.client_copy.specs.View as copies
 use Rattle.client_copy.specs.View.{NoClash}
 use Rattle.pad_client.specs.State.{State, ClientState}
 use Rattle.pad_client.specs.Hear.{Addressed, IsBrought, IsBroughtBy, Brings}
 
 abbrev pub View : Type 0
-View = State copies.View
+View = State copies.View chains.View
+
+-- the chain of a repair stands for what was received, and never truncates; all of that is among the messages that ever came
+pub record StandsAsRepair (chain : chains.View) (all received : List Message) : Type 0 where
+  pub choice : Choice
+  pub stands : StandsFor chain first_base received choice
+  pub whole : chain.whole ≡ true
+  pub among : AreAmong received all
+
+-- there is a chain if a repair runs, and only then
+abbrev pub StandsAsRepairs : List Message → Option chains.View → Option (List Message) → Type 0
+StandsAsRepairs all None None = Unit {0}
+StandsAsRepairs all None (Some received) = ⊥
+StandsAsRepairs all (Some chain) None = ⊥
+StandsAsRepairs all (Some chain) (Some received) = StandsAsRepair chain all received
 
 -- the client in memory stands for the machine's state. Its count of contents that spelled no message stays at 2^64 - 1.
 pub record StandsAs (held : View) (client : ClientState) : Type 0 where
@@ -17,6 +36,7 @@ pub record StandsAs (held : View) (client : ClientState) : Type 0 where
   pub unreadable : held.unreadable ≡ min client.unreadable (2 ^ 64 - 1)
   pub wanted : held.wanted ≡ client.wanted
   pub requests : held.requests ≡ client.requests
+  pub repair : StandsAsRepairs client.copy.pad.all held.repair client.repair
   pub synced : held.synced ≡ client.synced
 
 -- a client that refused stands for what it stood for

@@ -11,9 +11,11 @@ mod calls;
 mod content;
 mod hear;
 mod make;
+mod repairing;
 mod show;
 mod sync;
 
+use crate::repair::Repair;
 use client_copy::WorkingCopy;
 use client_requests::Requests;
 use pad_chain::Moves;
@@ -31,6 +33,7 @@ pub struct Client<S: UnitStore> {
     unreadable: u64,
     wanted: Option<u16>,
     requests: Requests,
+    repair: Option<Repair<S>>,
     synced: Moves,
 }
 
@@ -41,7 +44,7 @@ impl<S: UnitStore> Model for Client<S> {
 
     ghost Value = { View };
 
-    ghost view = { λ client. record { copy = client.copy; unreadable = client.unreadable; wanted = client.wanted; requests = client.requests; synced = client.synced } };
+    ghost view = { λ client. record { copy = client.copy; unreadable = client.unreadable; wanted = client.wanted; requests = client.requests; repair = client.repair; synced = client.synced } };
 
     ghost invariant = { λ client. IfSome client.wanted IsInterval };
 }
@@ -58,6 +61,7 @@ impl<S: UnitStore> Client<S> {
             unreadable: 0,
             wanted: None,
             requests,
+            repair: None,
             synced: Moves::new(Vec::new(alloc)),
         })
     }
@@ -111,7 +115,6 @@ impl<S: UnitStore> Client<S> {
     {
         self.copy.base()
     }
-
     /// Lends the messages that the last `sync` that was not refused brought onto the best chain, the oldest first, each with its
     /// patch. There are none before the first.
     pub fn synced(&self) -> &Moves

@@ -18,11 +18,13 @@ pub enum Heard {
     Adopted,
     /// A content for the channel that spells no message.
     Unreadable,
-    /// A content for the channel, and how the best chain changed.
+    /// A content for the channel, and how the best chain changed. While a repair runs nothing changes.
     Content(Moved),
-    /// The end of a history that was asked, and how many entries the channel's log has.
+    /// The end of a repair's history. False if the work was emptied: the old best message is neither the new base nor on a path of it.
+    Repaired(bool),
+    /// The end of a history that was asked by no repair, and how many entries the channel's log has.
     End(u64),
-    /// The keeper does not know the key from which a history was asked.
+    /// The keeper does not know the key from which a history was asked, by no repair.
     Unknown,
     /// Any other reply.
     Ignored,

@@ -7,8 +7,8 @@
 //! let mut client = Client::<Rope>::new(alloc)?;
 //! let text = client.join(alloc, channel)?;            // to be sent
 //! let heard = client.hear(alloc, text, &mut steps)?;  // what the server said
+//! let texts = client.sync(alloc, &mut steps)?; // own messages, to be sent
 //! client.edit(alloc, op)?;                            // of the shown text
-//! let texts = client.sync(alloc, &mut steps)?;        // to be sent: own messages of the work
 //! ```
 #![tactic(auto)]
 
@@ -16,6 +16,7 @@ mod client;
 mod edit_refused;
 mod hear_refused;
 mod heard;
+mod repair;
 mod sync_refused;
 
 pub use client::Client;

@@ -67,6 +67,9 @@ const AFTER: &str =
 /// The third request was done.
 const LEFT: &str = "[3,\"ACK\"]";
 
+/// The second request was done.
+const DONE: &str = "[2,\"ACK\"]";
+
 /// The second request was not done.
 const REFUSED: &str = "[2,\"ERROR\",\"EFULL\",\"00112233445566778899aabbccddeeff\"]";
 
@@ -81,6 +84,7 @@ enum Step {
     Ask,
     Leave,
     Sync,
+    Repair,
     Resend,
     Lost,
     Type(u32, &'static str),
@@ -98,6 +102,8 @@ fn told(heard: &Heard) -> &'static str {
         Heard::Adopted => "Adopted ",
         Heard::Unreadable => "Unreadable ",
         Heard::Content(_) => "Content ",
+        Heard::Repaired(true) => "Repaired ",
+        Heard::Repaired(false) => "Emptied ",
         Heard::End(_) => "End ",
         Heard::Unknown => "Unknown ",
         Heard::Ignored => "Ignored ",
@@ -149,6 +155,7 @@ fn does<L: Ledger>(
         Step::Ask => Ok(word(client.ask(alloc, Since::Default).is_ok())),
         Step::Leave => Ok(word(client.leave(alloc).is_ok())),
         Step::Sync => Ok(word(client.sync(alloc, steps).is_ok())),
+        Step::Repair => Ok(word(client.repair(alloc, steps).is_ok())),
         Step::Resend => Ok(word(client.resend(alloc).is_ok())),
         Step::Lost => {
             client.lost();
@@ -197,7 +204,69 @@ fn all_told(alloc: Global, conversation: &[Step]) -> Result<(String, Name, Wire)
 #[test]
 fn clients_hear_and_answer(rt: HostRuntime) -> Result<(), Fail> {
     let alloc = rt.alloc();
-    let table: [(&[Step], &str, &str, &str); 4] = [
+    let table: [(&[Step], &str, &str, &str); 7] = [
+        (
+            &[
+                Step::Hear(IDENT),
+                Step::Join,
+                Step::Repair,
+                Step::Hear(KEEPS),
+                Step::Hear(OWN),
+                Step::Type(0, "hi"),
+                Step::Sync,
+                Step::Repair,
+                Step::Repair,
+                Step::Hear(FIRST),
+                Step::Type(0, "z"),
+                Step::Sync,
+                Step::Ask,
+                Step::Hear(SPELLS_NOTHING),
+                Step::Hear(UNKNOWN),
+                Step::Hear(LEAVES),
+                Step::Hear(END),
+                Step::Hear(END),
+            ],
+            "Ident sent refused Ignored Joined sent sent sent refused Content refused refused refused Unreadable Ignored Content Repaired Ignored awaits ",
+            "abcd",
+            "outbox 1\nwork 1\nshown \"hiabcd\"\n",
+        ),
+        (
+            &[
+                Step::Hear(IDENT),
+                Step::Join,
+                Step::Hear(KEEPS),
+                Step::Hear(OWN),
+                Step::Type(0, "hi"),
+                Step::Sync,
+                Step::Hear(DONE),
+                Step::Type(2, "z"),
+                Step::Repair,
+                Step::Hear(FIRST),
+                Step::Hear(END),
+            ],
+            "Ident sent Ignored Joined sent sent Acked sent sent Content Emptied ",
+            "abc",
+            "outbox 0\nwork 0\nshown \"abc\"\n",
+        ),
+        (
+            &[
+                Step::Hear(IDENT),
+                Step::Join,
+                Step::Hear(KEEPS),
+                Step::Hear(OWN),
+                Step::Repair,
+                Step::Hear(FIRST),
+                Step::Hear(REFUSED),
+                Step::Repair,
+                Step::Hear(FIRST),
+                Step::Lost,
+                Step::Hear(END),
+                Step::Type(0, "z"),
+            ],
+            "Ident sent Ignored Joined sent Content EFULLsent Content Ignored sent ",
+            "",
+            "outbox 0\nwork 1\nshown \"z\"\n",
+        ),
         (
             &[
                 Step::Hear(IDENT),

@@ -10,6 +10,7 @@ ghost use Rattle.client_requests.specs.Calls.{Joins, Leaves, Asks, Resends, with
 ghost use Rattle.pad_client.specs.State.{ClientState, with_requests};
 ghost use Rattle.pad_client.specs.Refusal.{IsEditCause};
 ghost use Rattle.pad_client.specs.Calls.{Edits, with_interval};
+ghost use Rattle.pad_client.specs.Repair.{with_answered};
 ghost use Rattle.pad_client.specs.View.{StandsAs};
 
 use crate::client::Client;
@@ -62,11 +63,13 @@ impl<S: UnitStore> Client<S> {
         self.requests.resend(alloc)
     }
 
-    /// The connection is gone: the client is not joined and asks nothing, and the outbox stays, not awaited. It takes no memory.
+    /// The connection is gone: the client is not joined and asks nothing, a running repair is given up with the old chain kept, and
+    /// the outbox stays, not awaited. It takes no memory.
     pub fn lost(&mut self)
-        ensures { self.new ≡ with_requests (without_connection self.old.requests) self.old }
+        ensures { self.new ≡ with_answered (without_connection self.old.requests) self.old }
     {
         self.requests.lost();
+        self.repair = None;
     }
 
     /// Edits the shown text, which is the committed text with the work applied. The edit has the next stroke number. The first cause

@@ -1,6 +1,6 @@
 //! A content that is heard for the client's channel.
 
-ghost use Rattle.std.specs.Prelude.{◌≡◌, ◌↔◌, ◌+◌, ◌-◌, ◌^◌, min, [], ◌∷◌, ◌≤◌, true, IfOk, IfErr, OnOk, IsTrue, IsFalse, length};
+ghost use Rattle.std.specs.Prelude.{◌≡◌, ◌↔◌, ◌+◌, ◌-◌, ◌^◌, min, [], ◌∷◌, ◌≤◌, true, None, IfOk, IfErr, OnOk, IsTrue, IsFalse, length};
 ghost use Rattle.pad_message.specs.declared.message.Message.{Message};
 ghost use Rattle.pad_message.specs.Content.{Reads, most_operations};
 ghost use Rattle.pad_message.specs.Message.{name_of};
@@ -56,7 +56,7 @@ fn use_content(requests: &mut Requests, entry: bool)
 }
 
 /// A message of this name was heard.
-fn use_message(requests: &mut Requests, name: &Name, entry: bool)
+pub(crate) fn use_message(requests: &mut Requests, name: &Name, entry: bool)
     ensures used { (message : Message) → name.now ≡ name_of message → requests.new ≡ after_message entry message requests.old }
     ensures last { requests.new.last ≡ requests.old.last }
 {
@@ -115,6 +115,30 @@ impl<S: UnitStore> Client<S> {
         ensures last { self.new.requests.last ≡ self.old.requests.last }
     {
         let name = message.name(alloc)?;
+        match self.repair.take() {
+            Some(repair) => self.note(alloc, repair, name, message, entry, steps),
+            None => self.take_in(alloc, name, message, entry, steps),
+        }
+    }
+
+    /// Takes the message of this name for the channel, while no repair runs.
+    fn take_in<L: Ledger>(
+        &mut self,
+        alloc: Global,
+        name: Name,
+        message: Message,
+        entry: bool,
+        steps: &mut Steps<L>,
+    ) -> Result<Heard, HearRefused>
+        requires none { self.old.repair ≡ None }
+        requires named { name ≡ name_of message }
+        requires interval { HasInterval message.kind }
+        ensures hears { IfOk result (λ answer. (client : ClientState) → StandsAs self.old client → NoClash client.copy.pad.all → NoClash (message ∷ client.copy.pad.all)
+            → (after : ClientState) × HearsMessage client entry message answer after × StandsAs self.new after) }
+        ensures full { IfErr result (λ refused. refused ≡ Full → (client : ClientState) → StandsAs self.old client → MeetsFull client message) }
+        ensures still { IfErr result (λ refused. refused ≡ Full → StandsStill self.old self.new) }
+        ensures last { self.new.requests.last ≡ self.old.requests.last }
+    {
         let adopted = self.adopt(alloc, &name, &message, entry)?;
         if adopted {
             return Ok(Heard::Adopted);
@@ -178,7 +202,7 @@ impl<S: UnitStore> Client<S> {
         false
     }
 
-    /// Receives the message of this name, and the work follows what moved.
+    /// Receives the message of this name while no repair runs, and the work follows what moved.
     fn receive<L: Ledger>(
         &mut self,
         alloc: Global,
@@ -187,6 +211,7 @@ impl<S: UnitStore> Client<S> {
         entry: bool,
         steps: &mut Steps<L>,
     ) -> Result<Moved, HearRefused>
+        requires none { self.old.repair ≡ None }
         requires named { name ≡ name_of message }
         requires interval { HasInterval message.kind }
         ensures receives { IfOk result (λ moved. (client : ClientState) → StandsAs self.old client → NoClash (message ∷ client.copy.pad.all)

@@ -1,7 +1,9 @@
 //! A text that is heard.
 
-ghost use Rattle.std.specs.Prelude.{◌≡◌, IfOk, IfErr};
+ghost use Rattle.std.specs.Prelude.{◌≡◌, ◌≢◌, ℕ, List, Some, IfOk, IfErr};
 ghost use Rattle.pad_message.specs.declared.message.Message.{Message};
+ghost use Rattle.netflux_codec.specs.declared.reply.Reply.TheVariants as reply;
+ghost use Rattle.client_copy.specs.View.{NoClash};
 ghost use Rattle.pad_client.specs.declared.hear_refused.HearRefused.TheVariants.{Full};
 ghost use Rattle.pad_client.specs.State.{ClientState};
 ghost use Rattle.pad_client.specs.Content.{MeetsFull};
@@ -47,23 +49,13 @@ fn hear_acked(requests: &mut Requests, number: u32) -> Heard
     }
 }
 
-/// The end of a history of a channel.
-fn hear_end(requests: &mut Requests, channel: &Channel, total: u32) -> Heard
-    ensures { IfItsChannel requests.old channel.now result requests.new (HearsEnd requests.old.asked requests.old total result requests.new) }
-{
-    if requests.is_channel(channel.as_str()) {
-        return end_answered(requests, total);
-    }
-    Heard::Ignored
-}
-
-/// What was asked is answered.
+/// What was asked by no repair is answered.
 fn end_answered(requests: &mut Requests, total: u32) -> Heard
     ensures { HearsEnd requests.old.asked requests.old total result requests.new }
 {
     match requests.asked() {
-        Asked::Nothing => Heard::Ignored,
-        Asked::History(_, _) | Asked::Repair(_) => {
+        Asked::Nothing | Asked::Repair(_) => Heard::Ignored,
+        Asked::History(_, _) => {
             requests.end();
             Heard::End(u64::from(total))
         }
@@ -131,29 +123,71 @@ impl<S: UnitStore> Client<S> {
         match reply {
             Reply::Ident(id) => {
                 self.requests.hear_id(id);
-                Ok(Heard::Ident)
+                Ok(self.told(Heard::Ident))
             }
             Reply::Error(number, word, _) => {
                 self.requests.forget(number);
-                Ok(Heard::Error(number, word))
+                Ok(self.told(Heard::Error(number, word)))
             }
-            Reply::Member(who, channel) => Ok(hear_who(&mut self.requests, who, channel)),
-            Reply::Ack(number) => Ok(hear_acked(&mut self.requests, number)),
+            Reply::Member(who, channel) => {
+                let heard = hear_who(&mut self.requests, who, channel);
+                Ok(self.told(heard))
+            }
+            Reply::Ack(number) => {
+                let heard = hear_acked(&mut self.requests, number);
+                Ok(self.told(heard))
+            }
             Reply::Msg(_, target, content) => {
                 self.hear_content(alloc, target.as_str(), content.as_str(), false, steps)
             }
             Reply::History(_, channel, _, _, content) => {
                 self.hear_content(alloc, channel.as_str(), content.as_str(), true, steps)
             }
-            Reply::HistoryEnd(_, channel, total) => {
-                Ok(hear_end(&mut self.requests, &channel, total))
-            }
+            Reply::HistoryEnd(_, channel, total) => self.hear_end(alloc, &channel, total, steps),
             Reply::HistoryUnknown(_, channel, _) => {
-                Ok(hear_unknown(&mut self.requests, &channel))
+                let heard = hear_unknown(&mut self.requests, &channel);
+                Ok(self.told(heard))
             }
-            Reply::Joined(_, _) => Ok(Heard::Ignored),
-            Reply::Gone(_, _, _) => Ok(Heard::Ignored),
-            Reply::Entry(_, _, _, _, _, _) => Ok(Heard::Ignored),
+            Reply::Joined(_, _) => Ok(self.told(Heard::Ignored)),
+            Reply::Gone(_, _, _) => Ok(self.told(Heard::Ignored)),
+            Reply::Entry(_, _, _, _, _, _) => Ok(self.told(Heard::Ignored)),
+        }
+    }
+
+    /// Hears the end of a history of a channel.
+    fn hear_end<L: Ledger>(
+        &mut self,
+        alloc: Global,
+        channel: &Channel,
+        total: u32,
+        steps: &mut Steps<L>,
+    ) -> Result<Heard, HearRefused>
+        ensures hears { IfOk result (λ answer. (keeper : List ℕ) (client : ClientState) → StandsAs self.old client → NoClash client.copy.pad.all
+            → (after : ClientState) × HearsReply client (reply.HistoryEnd keeper channel.now total) answer after × StandsAs self.new after) }
+        ensures memory { IfErr result (λ refused. refused ≢ Full) }
+        ensures last { self.new.requests.last ≡ self.old.requests.last }
+    {
+        if self.requests.is_channel(channel.as_str()) {
+            return self.end_history(alloc, total, steps);
+        }
+        Ok(self.told(Heard::Ignored))
+    }
+
+    /// Hears the end of a history of the client's channel.
+    fn end_history<L: Ledger>(
+        &mut self,
+        alloc: Global,
+        total: u32,
+        steps: &mut Steps<L>,
+    ) -> Result<Heard, HearRefused>
+        ensures hears { IfOk result (λ answer. (keeper channel : List ℕ) (client : ClientState) → StandsAs self.old client → NoClash client.copy.pad.all → client.requests.channel ≡ Some channel
+            → (after : ClientState) × HearsReply client (reply.HistoryEnd keeper channel total) answer after × StandsAs self.new after) }
+        ensures memory { IfErr result (λ refused. refused ≢ Full) }
+        ensures last { self.new.requests.last ≡ self.old.requests.last }
+    {
+        match self.repair.take() {
+            Some(repair) => self.end_repair(alloc, repair, steps),
+            None => Ok(end_answered(&mut self.requests, total)),
         }
     }
 

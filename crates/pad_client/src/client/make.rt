@@ -33,7 +33,7 @@ fn add_moves(alloc: Global, all: &mut Moves, moves: Moves) -> Result<(), AllocEr
 }
 
 /// A copy of a message.
-fn copy_of(alloc: Global, message: &Message) -> Result<Message, AllocError>
+pub(crate) fn copy_of(alloc: Global, message: &Message) -> Result<Message, AllocError>
     ensures { IfOk result (λ copy. copy ≡ message.now) }
 {
     Ok(Message {

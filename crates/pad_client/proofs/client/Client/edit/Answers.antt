@@ -10,10 +10,10 @@ returns-clause-edits g c = rw (← c.self.view_is) (record { quiet = sym c.repai
 pub returns-clause-stands : goal.returns-clause-stands
 returns-clause-stands g c client stands =
     let i = c.self.inside in
-    let held : View = record { copy = i.copy; unreadable = i.unreadable; wanted = i.wanted; requests = i.requests; synced = i.synced } in
-    let new : View = record { copy = c.edit.new.self; unreadable = i.unreadable; wanted = i.wanted; requests = i.requests; synced = i.synced } in
+    let held : View = record { copy = i.copy; unreadable = i.unreadable; wanted = i.wanted; requests = i.requests; repair = i.repair; synced = i.synced } in
+    let new : View = record { copy = c.edit.new.self; unreadable = i.unreadable; wanted = i.wanted; requests = i.requests; repair = i.repair; synced = i.synced } in
     let stood = subst (λ (v : View). StandsAs v client) (sym c.self.view_is) stands in
-    client_edited held new client c.args.op stood (sym c.text-units.ensures.is ∙ c.text-units.ensures.stands client.copy stood.copy) (sym c.repairs.ensures ∙ c.if-repairs.false) c.in_ok-edit.ensures.edits (record { unreadable = refl; wanted = refl; synced = refl }) refl
+    client_edited held new client c.args.op stood (sym c.text-units.ensures.is ∙ c.text-units.ensures.stands client.copy stood.copy) (sym c.repairs.ensures ∙ c.if-repairs.false) c.in_ok-edit.ensures.edits (record { unreadable = refl; wanted = refl; repair = refl; synced = refl }) refl
 
 pub returns-in_err-edit-clause-cause : goal.returns-in_err-edit-clause-cause
 returns-in_err-edit-clause-cause g c =

@@ -8,7 +8,7 @@ use Rattle.pad_client.proofs.client.Client.sync.Goals as goal
 pub returns-then-made-eq0-clause-syncs : goal.returns-then-made-eq0-clause-syncs
 returns-then-made-eq0-clause-syncs g c client stands clash =
     let i = c.self.inside in
-    let held : View = record { copy = i.copy; unreadable = i.unreadable; wanted = i.wanted; requests = i.requests; synced = i.synced } in
+    let held : View = record { copy = i.copy; unreadable = i.unreadable; wanted = i.wanted; requests = i.requests; repair = i.repair; synced = i.synced } in
     let stood = subst (λ (v : View). StandsAs v client) (sym c.self.view_is) stands in
     let may = c.in_ok-channel.ensures.may client stands in (
       record client { synced = [] },
@@ -20,7 +20,7 @@ returns-then-made-eq0-clause-syncs g c client stands clash =
 pub returns-then-made-eq1-clause-syncs : goal.returns-then-made-eq1-clause-syncs
 returns-then-made-eq1-clause-syncs g c client stands clash =
     let i = c.self.inside in
-    let held : View = record { copy = i.copy; unreadable = i.unreadable; wanted = i.wanted; requests = i.requests; synced = i.synced } in
+    let held : View = record { copy = i.copy; unreadable = i.unreadable; wanted = i.wanted; requests = i.requests; repair = i.repair; synced = i.synced } in
     let stood = subst (λ (v : View). StandsAs v client) (sym c.self.view_is) stands in
     let may = c.in_ok-channel.ensures.may client stands in
     let one = one_made client.copy.work.patch.ops (is_due client.copy.pad) (sym may.1 ∙ c.if-made-eq1.true) in
@@ -30,7 +30,7 @@ returns-then-made-eq1-clause-syncs g c client stands clash =
 pub returns-clause-syncs : goal.returns-clause-syncs
 returns-clause-syncs g c client stands clash =
     let i = c.self.inside in
-    let held : View = record { copy = i.copy; unreadable = i.unreadable; wanted = i.wanted; requests = i.requests; synced = i.synced } in
+    let held : View = record { copy = i.copy; unreadable = i.unreadable; wanted = i.wanted; requests = i.requests; repair = i.repair; synced = i.synced } in
     let stood = subst (λ (v : View). StandsAs v client) (sym c.self.view_is) stands in
     let may = c.in_ok-channel.ensures.may client stands in
     let both = both_made client.copy.work.patch.ops (is_due client.copy.pad) (λ none. c.if-made-eq0.false (may.1 ∙ none)) (λ one. c.if-made-eq1.false (may.1 ∙ one)) in
