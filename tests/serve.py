@@ -23,6 +23,7 @@ import struct
 import subprocess
 import sys
 import tempfile
+import threading
 import time
 
 sys.path.insert(0, os.path.dirname(os.path.abspath(__file__)))
@@ -510,6 +511,42 @@ def damages(server):
     wanted.append(texts([[2, "ERROR", "ESTORE", d]]))
     server.refused = d
     return wanted, got
+
+
+@row
+def copies(server):
+    """A copy of a channel's file that is read from front to back while messages come has all that was acknowledged before it began, and then some of the next."""
+    c = fresh()
+    writer = entered(server)
+    keeper_of(writer, c)
+    sent, acked, last = [], [0], [False]
+
+    def write():
+        while not last[0]:
+            sent.append("%d" % len(sent) + "x" * random.randrange(3000))
+            writer.say([1, "MSG", c, sent[-1]])
+            assert writer.hear() == compact([1, "ACK"])
+            acked[0] = len(sent)
+
+    thread = threading.Thread(target=write)
+    thread.start()
+    got = []
+    with tempfile.TemporaryDirectory() as folder:
+        while len(got) < 20:
+            before = acked[0]
+            with open(pathlib.Path(folder) / (c + ".padlog2"), "wb") as copy:
+                if before:
+                    with open(server.folder / (c + ".padlog2"), "rb", buffering=0) as log:
+                        while piece := log.read(4096):
+                            copy.write(piece)
+            done = subprocess.run([*server.command, "log", folder, c], stdout=subprocess.PIPE, stderr=subprocess.DEVNULL)
+            lines = done.stdout.decode().splitlines()
+            found = [json.loads(it.split(" ", 3)[3]) for it in lines[:-1]]
+            got.append((done.returncode, lines[-1:], len(found) >= before, found == sent[: len(found)]))
+            got[-1] = got[-1] == (0, ["entries %d" % len(found)], True, True) or got[-1]
+    last[0] = True
+    thread.join()
+    return [True] * 20 + [True], got + [acked[0] > 0]
 
 
 def dialogue(server, steps, source):
