@@ -5,3 +5,6 @@ pub mod Turned
 pub mod Sound
 pub mod Orders
 pub mod Steps
+pub mod Texts
+pub mod Lengths
+pub mod Readable

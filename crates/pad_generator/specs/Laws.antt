@@ -1,6 +1,7 @@
 -- What holds of the items and the contents of every number.
 use Rattle.std.specs.Prelude.{◌≡◌, ◌≢◌, ◌↔◌, ℕ, ◌≤◌, List, length, map, Contains}
 use Rattle.pad_message.specs.declared.message.Message.{Message}
+use Rattle.pad_message.specs.Content.{Reads}
 use Rattle.pad_message.specs.Message.{name_of}
 use Rattle.pad_model.specs.Base.{first_base}
 use Rattle.pad_model.specs.Path.{IsPath, last_name, text}
@@ -29,3 +30,8 @@ AsManyAsAsked = (number count : ℕ) → length (contents number count) ≡ coun
 abbrev pub OnlyTheOrderChanges : Type 0
 OnlyTheOrderChanges = (number count : ℕ) (content : List ℕ)
     → Contains (contents number count) content ↔ Contains (map content_of (messages number count)) content
+
+-- each content is read as the message that it is of
+abbrev pub EachIsRead : Type 0
+EachIsRead = (number count : ℕ) (content : List ℕ) → count ≤ MOST_MESSAGES → Contains (contents number count) content
+    → (message : Message) × Contains (messages number count) message × Reads content message

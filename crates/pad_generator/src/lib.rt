@@ -21,7 +21,7 @@ mod recent;
 mod words;
 
 pub use generator::{MOST_MESSAGES, generate};
-pub use laws::{as_many_as_asked, each_is_sound, only_the_order_changes};
+pub use laws::{as_many_as_asked, each_is_read, each_is_sound, only_the_order_changes};
 
 #[cfg(test)]
 mod tests;
