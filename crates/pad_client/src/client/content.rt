@@ -79,6 +79,7 @@ impl<S: UnitStore> Client<S> {
         ensures full { IfErr result (λ refused. refused ≡ Full → (client : ClientState) → StandsAs self.old client → (message : Message) × Reads content.now message × MeetsFull client message) }
         ensures still { IfErr result (λ refused. refused ≡ Full → StandsStill self.old self.new) }
         ensures last { self.new.requests.last ≡ self.old.requests.last }
+        ensures strokes { self.new.copy.strokes ≡ self.old.copy.strokes }
     {
         match Message::read(alloc, content) {
             Ok(message) => self.take_message(alloc, message, entry, steps),
@@ -113,6 +114,7 @@ impl<S: UnitStore> Client<S> {
         ensures full { IfErr result (λ refused. refused ≡ Full → (client : ClientState) → StandsAs self.old client → MeetsFull client message) }
         ensures still { IfErr result (λ refused. refused ≡ Full → StandsStill self.old self.new) }
         ensures last { self.new.requests.last ≡ self.old.requests.last }
+        ensures strokes { self.new.copy.strokes ≡ self.old.copy.strokes }
     {
         let name = message.name(alloc)?;
         match self.repair.take() {
@@ -138,6 +140,7 @@ impl<S: UnitStore> Client<S> {
         ensures full { IfErr result (λ refused. refused ≡ Full → (client : ClientState) → StandsAs self.old client → MeetsFull client message) }
         ensures still { IfErr result (λ refused. refused ≡ Full → StandsStill self.old self.new) }
         ensures last { self.new.requests.last ≡ self.old.requests.last }
+        ensures strokes { self.new.copy.strokes ≡ self.old.copy.strokes }
     {
         let adopted = self.adopt(alloc, &name, &message, entry)?;
         if adopted {
@@ -162,6 +165,7 @@ impl<S: UnitStore> Client<S> {
             × StandsAs self.new (record client { copy = copy; requests = after_message entry message.now client.requests })) }
         ensures refuses { IfOk result (λ adopted. IsFalse adopted → (self.new ≡ self.old) × ((client : ClientState) → StandsAs self.old client → NoClash client.copy.pad.all → ¬ (IsAdopted client entry message.now))) }
         ensures last { self.new.requests.last ≡ self.old.requests.last }
+        ensures strokes { self.new.copy.strokes ≡ self.old.copy.strokes }
     {
         if self.may_adopt(entry) {
             return self.adopt_entry(alloc, name, message);
@@ -183,6 +187,7 @@ impl<S: UnitStore> Client<S> {
             → (copy : Copy) × Adopts client.copy message.now copy × StandsAs self.new (record client { copy = copy; requests = after_message true message.now client.requests })) }
         ensures refuses { IfOk result (λ adopted. IsFalse adopted → (self.new ≡ self.old) × ((base : Base) → ¬ (Gives message.now base))) }
         ensures last { self.new.requests.last ≡ self.old.requests.last }
+        ensures strokes { self.new.copy.strokes ≡ self.old.copy.strokes }
     {
         let adopted = self.copy.adopt(alloc, message)?;
         if adopted {
@@ -220,6 +225,7 @@ impl<S: UnitStore> Client<S> {
         ensures full { IfErr result (λ refused. refused ≡ Full → (client : ClientState) → StandsAs self.old client → MeetsFull client message) }
         ensures still { IfErr result (λ refused. refused ≡ Full → StandsStill self.old self.new) }
         ensures last { self.new.requests.last ≡ self.old.requests.last }
+        ensures strokes { self.new.copy.strokes ≡ self.old.copy.strokes }
     {
         let moved = self.copy.receive(alloc, name, message, steps)?;
         use_message(&mut self.requests, &name, entry);

@@ -99,6 +99,7 @@ impl<S: UnitStore> Client<S> {
         ensures full { IfErr result (λ refused. refused ≡ Full → (client : ClientState) → StandsAs self.old client → IsRefused client text.now) }
         ensures still { IfErr result (λ refused. refused ≡ Full → StandsStill self.old self.new) }
         ensures last { self.new.requests.last ≡ self.old.requests.last }
+        ensures strokes { self.new.copy.strokes ≡ self.old.copy.strokes }
     {
         match read_reply(alloc, text) {
             Ok(reply) => self.hear_reply(alloc, reply, steps),
@@ -119,6 +120,7 @@ impl<S: UnitStore> Client<S> {
         ensures full { IfErr result (λ refused. refused ≡ Full → (client : ClientState) → StandsAs self.old client → (message : Message) × IsBroughtBy client reply message × MeetsFull client message) }
         ensures still { IfErr result (λ refused. refused ≡ Full → StandsStill self.old self.new) }
         ensures last { self.new.requests.last ≡ self.old.requests.last }
+        ensures strokes { self.new.copy.strokes ≡ self.old.copy.strokes }
     {
         match reply {
             Reply::Ident(id) => {
@@ -166,6 +168,7 @@ impl<S: UnitStore> Client<S> {
             → (after : ClientState) × HearsReply client (reply.HistoryEnd keeper channel.now total) answer after × StandsAs self.new after) }
         ensures memory { IfErr result (λ refused. refused ≢ Full) }
         ensures last { self.new.requests.last ≡ self.old.requests.last }
+        ensures strokes { self.new.copy.strokes ≡ self.old.copy.strokes }
     {
         if self.requests.is_channel(channel.as_str()) {
             return self.end_history(alloc, total, steps);
@@ -184,6 +187,7 @@ impl<S: UnitStore> Client<S> {
             → (after : ClientState) × HearsReply client (reply.HistoryEnd keeper channel total) answer after × StandsAs self.new after) }
         ensures memory { IfErr result (λ refused. refused ≢ Full) }
         ensures last { self.new.requests.last ≡ self.old.requests.last }
+        ensures strokes { self.new.copy.strokes ≡ self.old.copy.strokes }
     {
         match self.repair.take() {
             Some(repair) => self.end_repair(alloc, repair, steps),
@@ -206,6 +210,7 @@ impl<S: UnitStore> Client<S> {
             → (message : Message) × IsBrought client (addressed_to target.now entry content.now) message × MeetsFull client message) }
         ensures still { IfErr result (λ refused. refused ≡ Full → StandsStill self.old self.new) }
         ensures last { self.new.requests.last ≡ self.old.requests.last }
+        ensures strokes { self.new.copy.strokes ≡ self.old.copy.strokes }
     {
         if self.requests.is_channel(target) {
             return self.take(alloc, content, entry, steps);

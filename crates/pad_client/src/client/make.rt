@@ -57,6 +57,7 @@ impl<S: UnitStore> Client<S> {
         ensures sends { IfOk result (λ wires. (client : ClientState) → StandsAs self.old client → NoClash (own_messages self.new.requests.outbox ++ client.copy.pad.all)
             → (after : ClientState) × SendsWork client wires after × StandsAs self.new after) }
         ensures last { self.new.requests.last ≤ self.old.requests.last + 1 }
+        ensures strokes { self.new.copy.strokes ≡ self.old.copy.strokes }
     {
         let text = self.make_patch(alloc, channel, steps)?;
         let mut texts = Vec::new(alloc);
@@ -77,6 +78,7 @@ impl<S: UnitStore> Client<S> {
         ensures sends { IfOk result (λ wires. (client : ClientState) → StandsAs self.old client → NoClash (own_messages self.new.requests.outbox ++ client.copy.pad.all)
             → (after : ClientState) × SendsBoth client wires after × StandsAs self.new after) }
         ensures last { self.new.requests.last ≤ self.old.requests.last + 2 }
+        ensures strokes { self.new.copy.strokes ≡ self.old.copy.strokes }
     {
         let first = self.make_checkpoint(alloc, channel, steps)?;
         let second = self.make_patch(alloc, channel, steps)?;
@@ -100,6 +102,7 @@ impl<S: UnitStore> Client<S> {
             × ((client : ClientState) → StandsAs self.old client → NoClash (message ∷ client.copy.pad.all)
             → (after : ClientState) × IsCheckpointOf client.copy client.wanted message × Makes client message wire after × StandsAs self.new (record after { wanted = None }))) }
         ensures last { self.new.requests.last ≤ self.old.requests.last + 1 }
+        ensures strokes { self.new.copy.strokes ≡ self.old.copy.strokes }
     {
         checkpoints_are_made();
         let message = self.copy.checkpoint(alloc, self.wanted)?;
@@ -129,6 +132,7 @@ impl<S: UnitStore> Client<S> {
             × ((client : ClientState) → StandsAs self.old client → NoClash (message ∷ client.copy.pad.all)
             → (after : ClientState) × IsPatchOf client.copy message × Makes client message wire after × StandsAs self.new after)) }
         ensures last { self.new.requests.last ≤ self.old.requests.last + 1 }
+        ensures strokes { self.new.copy.strokes ≡ self.old.copy.strokes }
     {
         let message = self.copy.patch_message(alloc)?;
         if message.patch.ops.as_slice().len() > MOST_OPERATIONS {

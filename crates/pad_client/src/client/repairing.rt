@@ -95,6 +95,7 @@ impl<S: UnitStore> Client<S> {
         ensures cause { IfErr result (IsAskCause self.old.requests) }
         ensures unchanged { OnErr result (self.new ≡ self.old) }
         ensures last { self.new.requests.last ≤ self.old.requests.last + 1 }
+        ensures strokes { self.new.copy.strokes ≡ self.old.copy.strokes }
     {
         noted_stands();
         let wire = self.requests.question(alloc, Since::All)?;
@@ -122,6 +123,7 @@ impl<S: UnitStore> Client<S> {
         ensures full { IfErr result (λ refused. refused ≡ Full → (client : ClientState) → StandsAs (record self.old { repair = Some repair }) client → MeetsFull client message) }
         ensures still { IfErr result (λ refused. refused ≡ Full → StandsStill (record self.old { repair = Some repair }) self.new) }
         ensures last { self.new.requests.last ≡ self.old.requests.last }
+        ensures strokes { self.new.copy.strokes ≡ self.old.copy.strokes }
     {
         noted_stands();
         let mut repair = repair;
@@ -146,6 +148,7 @@ impl<S: UnitStore> Client<S> {
             × (answer ≡ heard.Repaired found) × StandsAs self.new after) }
         ensures memory { IfErr result (λ refused. refused ≢ Full) }
         ensures last { self.new.requests.last ≡ self.old.requests.last }
+        ensures strokes { self.new.copy.strokes ≡ self.old.copy.strokes }
     {
         let found = self.copy.end_repair(alloc, repair.into_chain(), steps)?;
         self.requests.end();

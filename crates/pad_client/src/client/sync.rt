@@ -78,6 +78,7 @@ impl<S: UnitStore> Client<S> {
         ensures cause { IfErr result (λ refused. (client : ClientState) → StandsAs self.old client → IsSyncCause client refused) }
         ensures unchanged { IfErr result (λ refused. (self.new ≡ self.old) ⊎ IsNoMemory refused) }
         ensures last { self.new.requests.last ≤ self.old.requests.last + 2 }
+        ensures strokes { self.new.copy.strokes ≡ self.old.copy.strokes }
     {
         let (channel, made) = self.may_sync(alloc)?;
         self.synced = Moves::new(Vec::new(alloc));

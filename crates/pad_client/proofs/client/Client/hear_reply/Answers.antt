@@ -112,3 +112,27 @@ returns-clause-hears g c client stands differs =
 
 pub returns-clause-last : goal.returns-clause-last
 returns-clause-last g c = ap (λ (v : View). v.requests.last) c.told-in-Entry.ensures.drops
+
+pub returns-in-Ident-clause-strokes : goal.returns-in-Ident-clause-strokes
+returns-in-Ident-clause-strokes g c = ap (λ (v : View). v.copy.strokes) c.told.ensures.drops ∙ ap (λ (v : View). v.copy.strokes) c.self.view_is
+
+pub returns-in-Error-clause-strokes : goal.returns-in-Error-clause-strokes
+returns-in-Error-clause-strokes g c = ap (λ (v : View). v.copy.strokes) c.told-in-Error.ensures.drops ∙ ap (λ (v : View). v.copy.strokes) c.self-in-Error.view_is
+
+pub returns-in-Member-clause-strokes : goal.returns-in-Member-clause-strokes
+returns-in-Member-clause-strokes g c = ap (λ (v : View). v.copy.strokes) c.told-in-Member.ensures.drops ∙ ap (λ (v : View). v.copy.strokes) c.self-in-Member.view_is
+
+pub returns-in-Ack-clause-strokes : goal.returns-in-Ack-clause-strokes
+returns-in-Ack-clause-strokes g c = ap (λ (v : View). v.copy.strokes) c.told-in-Ack.ensures.drops ∙ ap (λ (v : View). v.copy.strokes) c.self-in-Ack.view_is
+
+pub returns-in-HistoryUnknown-clause-strokes : goal.returns-in-HistoryUnknown-clause-strokes
+returns-in-HistoryUnknown-clause-strokes g c = ap (λ (v : View). v.copy.strokes) c.told-in-HistoryUnknown.ensures.drops ∙ ap (λ (v : View). v.copy.strokes) c.self-in-HistoryUnknown.view_is
+
+pub returns-in-Joined-clause-strokes : goal.returns-in-Joined-clause-strokes
+returns-in-Joined-clause-strokes g c = ap (λ (v : View). v.copy.strokes) c.told-in-Joined.ensures.drops
+
+pub returns-in-Gone-clause-strokes : goal.returns-in-Gone-clause-strokes
+returns-in-Gone-clause-strokes g c = ap (λ (v : View). v.copy.strokes) c.told-in-Gone.ensures.drops
+
+pub returns-clause-strokes : goal.returns-clause-strokes
+returns-clause-strokes g c = ap (λ (v : View). v.copy.strokes) c.told-in-Entry.ensures.drops
