@@ -1,8 +1,14 @@
 -- What is told of a client is its report.
-use Rattle.std.proofs.Common.{◌≡◌, ℕ, ◌+◌, ◌-◌, ◌^◌, min, List, ◌++◌, length, ap, ◌∙◌}
+use Rattle.std.proofs.Common.{◌≡◌, ℕ, Bool, true, false, ◌+◌, ◌-◌, ◌^◌, min, List, ◌++◌, length, ap, ◌∙◌}
 use Rattle.pad_list.specs.Number.{IsNumberOf}
 use Rattle.pad_patch.specs.Piece.{text_after}
-use Rattle.pad_model.specs.Path.{text}
+use Rattle.pad_message.specs.declared.message.Message.{Message}
+use Rattle.pad_model.specs.declared.base.Base.{Base}
+use Rattle.pad_model.specs.Best.{IsBest}
+use Rattle.pad_model.specs.Choice.{Choice}
+use Rattle.pad_model.specs.Path.{text, NamesDiffer}
+use Rattle.pad_model.proofs.CallerLemmas.{nothing_overtook}
+use Rattle.pad_chain.specs.Tie.{IsChosen}
 use Rattle.pad_model.specs.Count.{IsKnown, IsWaiting, IsKept}
 use Rattle.pad_model.specs.Report.{report_lines}
 use Rattle.pad_checkpoint.specs.declared.place.Place.{Place}
@@ -14,14 +20,22 @@ use Rattle.pad_client.specs.State.{ClientState}
 use Rattle.pad_client.specs.Report.{IsPadReport, own_lines, shown}
 use Rattle.pad_client.specs.View.{View, StandsAs}
 
+-- if nothing overtook, the chosen path is the best chain: also where nothing is ever dropped
+best_of : (whole : Bool) (base : Base) (received : List Message) (choice : Choice) → IsChosen whole base received choice → NamesDiffer received → choice.overtaken ≡ 0 → IsBest base received choice.chosen
+best_of true base received choice chosen differ none = chosen.best
+best_of false base received choice chosen differ none = nothing_overtook base received choice differ chosen none
+
 -- the lines of what a chain tells are the report of the pad
-pub reported : (client : ClientState) (report : Report) (best root : Place) (units bytes : List ℕ) → best ≡ place_of client.copy.pad.base client.copy.pad.choice.chosen
+pub reported : (client : ClientState) (report : Report) (best root : Place) (units bytes : List ℕ)
+    → IsChosen client.copy.pad.whole client.copy.pad.base client.copy.pad.received client.copy.pad.choice → best ≡ place_of client.copy.pad.base client.copy.pad.choice.chosen
     → root ≡ place_of client.copy.pad.base client.copy.pad.choice.root → units ≡ text client.copy.pad.base client.copy.pad.choice.chosen
     → report.overtaken ≡ client.copy.pad.choice.overtaken → report.unreadable ≡ min client.unreadable (2 ^ 64 - 1) → IsNumberOf (IsKnown client.copy.pad.base client.copy.pad.received) report.known
     → IsNumberOf (IsWaiting client.copy.pad.base client.copy.pad.received) report.waiting
     → ((above : ℕ) × IsNumberOf (IsKept client.copy.pad.base client.copy.pad.received client.copy.pad.choice.root) above × (report.kept ≡ above + 1))
     → report ≡ record report { best = best.name; height = best.height; root = root.name; root_height = root.height } → bytes ≡ report_lines (values report units) → IsPadReport client bytes
-reported client report best root units bytes at_best at_root after overtook unreadable known waiting kept told is = record {
+reported client report best root units bytes chosen at_best at_root after overtook unreadable known waiting kept told is = record {
+  chosen = chosen;
+  best = best_of client.copy.pad.whole client.copy.pad.base client.copy.pad.received client.copy.pad.choice chosen;
   known = report.known;
   waiting = report.waiting;
   kept = report.kept;

@@ -17,7 +17,8 @@ use Rattle.client_requests.specs.State as requested
 use Rattle.client_requests.specs.Calls.{Sends}
 use Rattle.pad_client.specs.State.{ClientState}
 use Rattle.pad_client.specs.Refusal.{made_of}
-use Rattle.pad_client.specs.Sync.{own_messages, Makes, SendsWork, SendsBoth}
+use Rattle.pad_client.specs.Inside.Made.{WorkDiffers, BothDiffer, WorkHasName, BothHaveNames}
+use Rattle.pad_client.specs.Sync.{own_messages, Makes, SendsWork, SendsBoth, WouldMake, DiffersAfterSync}
 use Rattle.pad_client.specs.View.{View, StandsAs, StandsAsRepairs}
 use Rattle.pad_client.proofs.Noting.{one_came, more_came}
 use Rattle.pad_chain.specs.State as chains
@@ -90,12 +91,13 @@ made_all before message moved after makes = one_came before.pad.all after.pad.al
 -- what is told of a patch message that was made, and of a checkpoint
 abbrev pub HasMadePatch : View → View → List ℕ → Type 0
 HasMadePatch held new wire = (message : Message) × Sends held.requests message wire new.requests
-    × ((client : ClientState) → StandsAs held client → NoClash (message ∷ client.copy.pad.all) → (after : ClientState) × IsPatchOf client.copy message × Makes client message wire after × StandsAs new after)
+    × ((client : ClientState) → StandsAs held client → IsPatchOf client.copy message
+    × (NoClash (message ∷ client.copy.pad.all) → (after : ClientState) × Makes client message wire after × StandsAs new after))
 
 abbrev pub HasMadeCheckpoint : View → View → List ℕ → Type 0
 HasMadeCheckpoint held new wire = (message : Message) × Sends held.requests message wire new.requests
-    × ((client : ClientState) → StandsAs held client → NoClash (message ∷ client.copy.pad.all)
-    → (after : ClientState) × IsCheckpointOf client.copy client.wanted message × Makes client message wire after × StandsAs new (record after { wanted = None }))
+    × ((client : ClientState) → StandsAs held client → IsCheckpointOf client.copy client.wanted message
+    × (NoClash (message ∷ client.copy.pad.all) → (after : ClientState) × Makes client message wire after × StandsAs new (record after { wanted = None })))
 
 abbrev own_of : requested.State → Message → Unacknowledged
 own_of requests message = record { message = message; number = Some (requests.last + 1) }
@@ -112,35 +114,70 @@ stays_in before after message wire own sends has =
 all_after : (before after : ClientState) (message : Message) (wire : List ℕ) → Makes before message wire after → after.copy.pad.all ≡ message ∷ before.copy.pad.all
 all_after before after message wire makes = ap (λ (c : ClientState). c.copy.pad.all) makes.state ∙ ap (λ (c : Copy). c.pad.all) makes.makes.state ∙ makes.makes.received.all
 
+-- the messages that were sent have names of their own
+work_alone : (held new : View) (client : ClientState) (message : Message) (wire : List ℕ) → Sends held.requests message wire new.requests → IsPatchOf client.copy message
+    → WorkHasName client new.requests → NoClash (message ∷ client.copy.pad.all)
+work_alone held new client message wire sends is (inl differs) = differs message is
+work_alone held new client message wire sends is (inr clash) = clash_one new.requests.outbox (own_of held.requests message) client.copy.pad.all (sent_in held.requests new.requests message wire sends) clash
+
+checkpoint_alone : (held middle new : View) (client : ClientState) (checkpoint message : Message) (first second : List ℕ) → Sends held.requests checkpoint first middle.requests
+    → Sends middle.requests message second new.requests → IsCheckpointOf client.copy client.wanted checkpoint → BothHaveNames client new.requests → NoClash (checkpoint ∷ client.copy.pad.all)
+checkpoint_alone held middle new client checkpoint message first second sends_first sends is (inl differs) = differs.checkpoint checkpoint is
+checkpoint_alone held middle new client checkpoint message first second sends_first sends is (inr clash) =
+    let one = own_of held.requests checkpoint in
+    clash_one new.requests.outbox one client.copy.pad.all
+    (stays_in middle.requests new.requests message second one sends (sent_in held.requests middle.requests checkpoint first sends_first)) clash
+
+both_alone : (held middle new : View) (client between : ClientState) (checkpoint message : Message) (first second : List ℕ) → Sends held.requests checkpoint first middle.requests
+    → Sends middle.requests message second new.requests → IsCheckpointOf client.copy client.wanted checkpoint → Makes client checkpoint first between → IsPatchOf between.copy message
+    → BothHaveNames client new.requests → NoClash (message ∷ checkpoint ∷ client.copy.pad.all)
+both_alone held middle new client between checkpoint message first second sends_first sends is makes is_patch (inl differs) = differs.both checkpoint message first between is makes is_patch
+both_alone held middle new client between checkpoint message first second sends_first sends is makes is_patch (inr clash) =
+    let one = own_of held.requests checkpoint in
+    clash_two new.requests.outbox one (own_of middle.requests message) client.copy.pad.all
+    (stays_in middle.requests new.requests message second one sends (sent_in held.requests middle.requests checkpoint first sends_first))
+    (sent_in middle.requests new.requests message second sends) clash
+
 pub sent_work : (held new : View) (wires : List (List ℕ)) (wire : List ℕ) → wires ≡ wire ∷ [] → HasMadePatch held new wire → (client : ClientState) → StandsAs held client
-    → NoClash (own_messages new.requests.outbox ++ client.copy.pad.all) → (after : ClientState) × SendsWork client wires after × StandsAs new after
-sent_work held new wires wire is (message, sends, makes) client stands clash =
-    let given = makes client stands (clash_one new.requests.outbox (own_of held.requests message) client.copy.pad.all (sent_in held.requests new.requests message wire sends) clash) in
-    (given.0, record { message = message; is_patch = given.1; wire = wire; makes = given.2; texts = is }, given.3)
+    → WorkHasName client new.requests → (after : ClientState) × SendsWork client wires after × StandsAs new after
+sent_work held new wires wire is (message, sends, makes) client stands named =
+    let made = makes client stands in
+    let given = made.1 (work_alone held new client message wire sends made.0 named) in
+    (given.0, record { message = message; is_patch = made.0; wire = wire; makes = given.1; texts = is }, given.2)
 
 pub sent_both : (held middle new : View) (wires : List (List ℕ)) (first second : List ℕ) → wires ≡ first ∷ second ∷ [] → HasMadeCheckpoint held middle first → HasMadePatch middle new second
-    → (client : ClientState) → StandsAs held client → NoClash (own_messages new.requests.outbox ++ client.copy.pad.all) → (after : ClientState) × SendsBoth client wires after × StandsAs new after
-sent_both held middle new wires first second is (checkpoint, sends_first, makes_first) (message, sends, makes) client stands clash =
-    let one = own_of held.requests checkpoint in
-    let other = own_of middle.requests message in
-    let has_one = stays_in middle.requests new.requests message second one sends (sent_in held.requests middle.requests checkpoint first sends_first) in
-    let has_other = sent_in middle.requests new.requests message second sends in
-    let given = makes_first client stands (clash_one new.requests.outbox one client.copy.pad.all has_one clash) in
-    let two = clash_two new.requests.outbox one other client.copy.pad.all has_one has_other clash in
-    let next = makes (record given.0 { wanted = None }) given.3 (subst (λ all. NoClash (message ∷ all)) (sym (all_after client given.0 checkpoint first given.2)) two) in (
+    → (client : ClientState) → StandsAs held client → BothHaveNames client new.requests → (after : ClientState) × SendsBoth client wires after × StandsAs new after
+sent_both held middle new wires first second is (checkpoint, sends_first, makes_first) (message, sends, makes) client stands named =
+    let made = makes_first client stands in
+    let given = made.1 (checkpoint_alone held middle new client checkpoint message first second sends_first sends made.0 named) in
+    let between = record given.0 { wanted = None } in
+    let then = makes between given.2 in
+    let both = both_alone held middle new client given.0 checkpoint message first second sends_first sends made.0 given.1 then.0 named in
+    let next = then.1 (subst (λ all. NoClash (message ∷ all)) (sym (all_after client given.0 checkpoint first given.1)) both) in (
       next.0,
       record {
         message = checkpoint;
-        is_checkpoint = given.1;
+        is_checkpoint = made.0;
         wire = first;
         middle = given.0;
-        makes = given.2;
+        makes = given.1;
         rest = second ∷ [];
-        work = record { message = message; is_patch = next.1; wire = second; makes = next.2; texts = refl };
+        work = record { message = message; is_patch = then.0; wire = second; makes = next.1; texts = refl };
         texts = is;
       },
-      next.3,
+      next.2,
     )
+
+-- ---- the premise of a sync
+
+pub work_differs : (client : ClientState) → WouldMake client 1 → DiffersAfterSync client → WorkDiffers (record client { synced = [] })
+work_differs client makes differs message is = differs.work makes message is
+
+pub both_differ : (client : ClientState) → WouldMake client 2 → DiffersAfterSync client → BothDiffer (record client { synced = [] })
+both_differ client makes differs = record {
+  checkpoint = λ message is. differs.checkpoint makes message is;
+  both = λ message next wire middle is made is_patch. differs.both makes message next wire middle is made is_patch;
+}
 
 -- ---- how many messages are made
 

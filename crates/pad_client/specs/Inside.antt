@@ -1,2 +1,3 @@
 -- Words that only private functions use.
 pub mod Refused
+pub mod Made

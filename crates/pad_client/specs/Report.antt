@@ -1,7 +1,10 @@
 -- The report of a client.
 use Rattle.std.specs.Prelude.{◌≡◌, ℕ, ◌-◌, ◌^◌, min, List, ◌++◌, length, codes, decimal}
 use Rattle.pad_patch.specs.Piece.{text_after}
+use Rattle.pad_chain.specs.Tie.{IsChosen}
+use Rattle.pad_model.specs.Best.{IsBest}
 use Rattle.pad_model.specs.Count.{AreCounts}
+use Rattle.pad_model.specs.Path.{NamesDiffer}
 use Rattle.pad_model.specs.Report.{line, json_string, report_values, report_lines}
 use Rattle.client_copy.specs.Pad.{committed}
 use Rattle.pad_client.specs.State.{ClientState}
@@ -10,8 +13,11 @@ use Rattle.pad_client.specs.State.{ClientState}
 abbrev pub shown : ClientState → List ℕ
 shown client = text_after client.copy.work.patch (committed client.copy.pad)
 
--- the eleven lines on its pad. As contents that spelled no message at most 2^64 - 1 are told.
+-- The eleven lines on its pad: what is chosen of the messages received since the base. Where nothing overtook, they tell the best
+-- chain of all these. As contents that spelled no message at most 2^64 - 1 are told.
 pub record IsPadReport (client : ClientState) (bytes : List ℕ) : Type 0 where
+  pub chosen : IsChosen client.copy.pad.whole client.copy.pad.base client.copy.pad.received client.copy.pad.choice
+  pub best : NamesDiffer client.copy.pad.received → client.copy.pad.choice.overtaken ≡ 0 → IsBest client.copy.pad.base client.copy.pad.received client.copy.pad.choice.chosen
   pub known : ℕ
   pub waiting : ℕ
   pub kept : ℕ

@@ -5,11 +5,12 @@ use Rattle.pad_chain.specs.declared.moved.Moved.{Moved}
 use Rattle.client_copy.specs.State.{Copy}
 use Rattle.client_copy.specs.Make as copy
 use Rattle.client_copy.specs.Make.{IsCheckpointOf, IsPatchOf}
+use Rattle.client_copy.specs.View.{NoClash}
 use Rattle.client_outbox.specs.Outbox.{Unacknowledged}
 use Rattle.client_requests.specs.State as requested
 use Rattle.client_requests.specs.Calls.{Sends}
 use Rattle.pad_client.specs.State.{ClientState}
-use Rattle.pad_client.specs.Refusal.{is_due, MaySync}
+use Rattle.pad_client.specs.Refusal.{is_due, MaySync, messages_made}
 
 -- the messages of an outbox
 abbrev pub own_messages : List Unacknowledged → List Message
@@ -53,3 +54,18 @@ pub data Syncs (before : ClientState) : List (List ℕ) → ClientState → Type
       → SendsWork (record before { synced = [] }) wires after → Syncs before wires after
   sends_both : (wires : List (List ℕ)) (after : ClientState) → MaySync before → before.copy.work.patch.ops ≢ [] → is_due before.copy.pad ≡ true
       → SendsBoth (record before { synced = [] }) wires after → Syncs before wires after
+
+-- ---- the premise on names
+
+-- the client may sync, and that makes so many messages
+abbrev pub WouldMake : ClientState → ℕ → Type 0
+WouldMake client count = MaySync client × (messages_made client ≡ count)
+
+-- no names clash among all messages that the client ever received or made, nor with those that a sync makes now: the patch message
+-- alone, or a checkpoint and then the patch message
+pub record DiffersAfterSync (client : ClientState) : Type 0 where
+  pub now : NoClash client.copy.pad.all
+  pub work : WouldMake client 1 → (message : Message) → IsPatchOf client.copy message → NoClash (message ∷ client.copy.pad.all)
+  pub checkpoint : WouldMake client 2 → (message : Message) → IsCheckpointOf client.copy client.wanted message → NoClash (message ∷ client.copy.pad.all)
+  pub both : WouldMake client 2 → (message next : Message) (wire : List ℕ) (middle : ClientState) → IsCheckpointOf client.copy client.wanted message
+      → Makes (record client { synced = [] }) message wire middle → IsPatchOf middle.copy next → NoClash (next ∷ message ∷ client.copy.pad.all)

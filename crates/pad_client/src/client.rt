@@ -3,6 +3,7 @@
 ghost use Rattle.std.specs.Prelude.{◌≡◌, IfOk};
 ghost use Rattle.pad_checkpoint.specs.Place.{place_of};
 ghost use Rattle.client_copy.specs.Pad.{committed};
+ghost use Rattle.client_outbox.specs.Outbox.{some_awaits};
 ghost use Rattle.client_requests.specs.State.{awaits};
 ghost use Rattle.pad_client.specs.State.{ClientState, new_client};
 ghost use Rattle.pad_client.specs.View.{StandsAs};
@@ -71,6 +72,13 @@ impl<S: UnitStore> Client<S> {
         ensures { result ≡ awaits self.now.requests }
     {
         self.requests.awaits()
+    }
+
+    /// Whether a message of the outbox still awaits its answer.
+    pub fn outbox_awaits(&self) -> bool
+        ensures { result ≡ some_awaits self.now.requests.outbox }
+    {
+        self.requests.outbox().awaits()
     }
 
     /// The number given out last to a request; 0 before the first.

@@ -1,8 +1,9 @@
 //! The calls that hear nothing.
 
-ghost use Rattle.std.specs.Prelude.{◌≡◌, ◌<◌, ◌^◌, ◌-◌, IfOk, IfErr, OnOk, OnErr};
+ghost use Rattle.std.specs.Prelude.{◌≡◌, ◌<◌, ◌≤◌, ◌+◌, ◌^◌, ◌-◌, IfOk, IfErr, OnOk, OnErr};
 ghost use Rattle.pad_patch.specs.Piece.{text_after};
 ghost use Rattle.pad_message.specs.Kind.{IsInterval};
+ghost use Rattle.client_outbox.specs.Outbox.{most_unacknowledged};
 ghost use Rattle.client_copy.specs.Pad.{committed};
 ghost use Rattle.client_requests.specs.State as requested;
 ghost use Rattle.client_requests.specs.Refusal.{IsJoinCause, IsOpenCause, IsAskCause};
@@ -53,14 +54,17 @@ impl<S: UnitStore> Client<S> {
         self.requests.ask(alloc, from)
     }
 
-    /// Sends each message of the outbox again, in order, under new numbers: the texts.
+    /// Sends each message of the outbox again, in order, under new numbers: the texts, at most 64.
     pub fn resend(&mut self, alloc: Global) -> Result<Wires, ClientRefused>
         requires { self.old.requests.last < 4294967000 }
         ensures resends { IfOk result (λ wires. (requests : requested.State) × Resends self.old.requests wires requests × (self.new ≡ with_requests requests self.old)) }
         ensures cause { IfErr result (IsOpenCause self.old.requests) }
         ensures unchanged { OnErr result (self.new ≡ self.old) }
+        ensures last { self.new.requests.last ≤ self.old.requests.last + most_unacknowledged }
     {
-        self.requests.resend(alloc)
+        let _count = self.requests.outbox().len();
+        let wires = self.requests.resend(alloc)?;
+        Ok(wires)
     }
 
     /// The connection is gone: the client is not joined and asks nothing, a running repair is given up with the old chain kept, and

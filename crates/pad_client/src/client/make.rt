@@ -7,7 +7,8 @@ ghost use Rattle.client_copy.specs.Make.{IsCheckpointOf, IsPatchOf};
 ghost use Rattle.client_copy.specs.View.{NoClash};
 ghost use Rattle.client_requests.specs.Calls.{Sends};
 ghost use Rattle.pad_client.specs.State.{ClientState};
-ghost use Rattle.pad_client.specs.Sync.{Makes, own_messages, SendsWork, SendsBoth};
+ghost use Rattle.pad_client.specs.Inside.Made.{WorkHasName, BothHaveNames};
+ghost use Rattle.pad_client.specs.Sync.{Makes, SendsWork, SendsBoth};
 ghost use Rattle.pad_client.specs.View.{StandsAs};
 
 use crate::client::Client;
@@ -54,7 +55,7 @@ impl<S: UnitStore> Client<S> {
         requires number { self.old.requests.last < 4294967000 }
         requires room { length self.old.requests.outbox + 1 ≤ most_unacknowledged }
         requires its { self.old.requests.channel ≡ Some channel.now }
-        ensures sends { IfOk result (λ wires. (client : ClientState) → StandsAs self.old client → NoClash (own_messages self.new.requests.outbox ++ client.copy.pad.all)
+        ensures sends { IfOk result (λ wires. (client : ClientState) → StandsAs self.old client → WorkHasName client self.new.requests
             → (after : ClientState) × SendsWork client wires after × StandsAs self.new after) }
         ensures last { self.new.requests.last ≤ self.old.requests.last + 1 }
         ensures strokes { self.new.copy.strokes ≡ self.old.copy.strokes }
@@ -75,7 +76,7 @@ impl<S: UnitStore> Client<S> {
         requires number { self.old.requests.last < 4294967000 }
         requires room { length self.old.requests.outbox + 2 ≤ most_unacknowledged }
         requires its { self.old.requests.channel ≡ Some channel.now }
-        ensures sends { IfOk result (λ wires. (client : ClientState) → StandsAs self.old client → NoClash (own_messages self.new.requests.outbox ++ client.copy.pad.all)
+        ensures sends { IfOk result (λ wires. (client : ClientState) → StandsAs self.old client → BothHaveNames client self.new.requests
             → (after : ClientState) × SendsBoth client wires after × StandsAs self.new after) }
         ensures last { self.new.requests.last ≤ self.old.requests.last + 2 }
         ensures strokes { self.new.copy.strokes ≡ self.old.copy.strokes }
@@ -99,8 +100,8 @@ impl<S: UnitStore> Client<S> {
         requires room { length self.old.requests.outbox < most_unacknowledged }
         requires its { self.old.requests.channel ≡ Some channel.now }
         ensures makes { IfOk result (λ wire. (message : Message) × Sends self.old.requests message wire self.new.requests
-            × ((client : ClientState) → StandsAs self.old client → NoClash (message ∷ client.copy.pad.all)
-            → (after : ClientState) × IsCheckpointOf client.copy client.wanted message × Makes client message wire after × StandsAs self.new (record after { wanted = None }))) }
+            × ((client : ClientState) → StandsAs self.old client → IsCheckpointOf client.copy client.wanted message
+            × (NoClash (message ∷ client.copy.pad.all) → (after : ClientState) × Makes client message wire after × StandsAs self.new (record after { wanted = None })))) }
         ensures last { self.new.requests.last ≤ self.old.requests.last + 1 }
         ensures strokes { self.new.copy.strokes ≡ self.old.copy.strokes }
     {
@@ -129,8 +130,8 @@ impl<S: UnitStore> Client<S> {
         requires room { length self.old.requests.outbox < most_unacknowledged }
         requires its { self.old.requests.channel ≡ Some channel.now }
         ensures makes { IfOk result (λ wire. (message : Message) × Sends self.old.requests message wire self.new.requests
-            × ((client : ClientState) → StandsAs self.old client → NoClash (message ∷ client.copy.pad.all)
-            → (after : ClientState) × IsPatchOf client.copy message × Makes client message wire after × StandsAs self.new after)) }
+            × ((client : ClientState) → StandsAs self.old client → IsPatchOf client.copy message
+            × (NoClash (message ∷ client.copy.pad.all) → (after : ClientState) × Makes client message wire after × StandsAs self.new after))) }
         ensures last { self.new.requests.last ≤ self.old.requests.last + 1 }
         ensures strokes { self.new.copy.strokes ≡ self.old.copy.strokes }
     {

@@ -10,7 +10,7 @@ ghost use Rattle.client_copy.specs.View.{NoClash};
 ghost use Rattle.pad_client.specs.State.{ClientState};
 ghost use Rattle.pad_client.specs.Inside.Refused.{IsOpenSyncCause};
 ghost use Rattle.pad_client.specs.Refusal.{MaySync, IsTooLong, IsSyncCause, IsNoMemory, messages_made};
-ghost use Rattle.pad_client.specs.Sync.{Syncs, own_messages};
+ghost use Rattle.pad_client.specs.Sync.{Syncs, DiffersAfterSync, own_messages};
 ghost use Rattle.pad_client.specs.View.{StandsAs};
 
 use crate::client::Client;
@@ -73,7 +73,9 @@ impl<S: UnitStore> Client<S> {
         steps: &mut Steps<L>,
     ) -> Result<Wires, SyncRefused>
         requires { self.old.requests.last < 4294967000 }
-        ensures syncs { IfOk result (λ wires. (client : ClientState) → StandsAs self.old client → NoClash (own_messages self.new.requests.outbox ++ client.copy.pad.all)
+        ensures syncs { IfOk result (λ wires. (client : ClientState) → StandsAs self.old client → DiffersAfterSync client
+            → (after : ClientState) × Syncs client wires after × StandsAs self.new after) }
+        ensures as_sent { IfOk result (λ wires. (client : ClientState) → StandsAs self.old client → NoClash (own_messages self.new.requests.outbox ++ client.copy.pad.all)
             → (after : ClientState) × Syncs client wires after × StandsAs self.new after) }
         ensures cause { IfErr result (λ refused. (client : ClientState) → StandsAs self.old client → IsSyncCause client refused) }
         ensures unchanged { IfErr result (λ refused. (self.new ≡ self.old) ⊎ IsNoMemory refused) }

@@ -13,13 +13,15 @@ returns-clause-makes g c =
     let moved = c.in-Ok.moved in (
       message,
       rw (← c.self.view_is) c.in_ok-wire.ensures.sends,
-      λ client stands clash.
-          let stood = subst (λ (v : View). StandsAs v client) (sym c.self.view_is) stands in
-          let given = follows_as held.copy new.copy message c.in_ok-received.received moved c.in_ok-received.ensures c.in-Ok.ensures.follows client.copy stood.copy clash in
-          let makes = c.checkpoints_are_made.ensures client.copy message moved given.0 c.in_ok-message.ensures.kind given.1 in (
-            record client { copy = given.0; requests = new.requests; synced = client.synced ++ moved.applied },
+      λ client stands.
+          let stood = subst (λ (v : View). StandsAs v client) (sym c.self.view_is) stands in (
             subst (λ (wanted : Option ℕ). IsCheckpointOf client.copy wanted message) stood.wanted (c.in_ok-message.ensures.is client.copy stood.copy),
-            made held new client message c.in_ok-wire.wire moved given.0 stood c.in_ok-wire.ensures.sends makes,
-            stands_made held new client moved given.0 None stood given.2 (made_all client.copy message moved given.0 makes) refl refl refl c.in_ok-add_moves.ensures,
+            λ clash.
+                let given = follows_as held.copy new.copy message c.in_ok-received.received moved c.in_ok-received.ensures c.in-Ok.ensures.follows client.copy stood.copy clash in
+                let makes = c.checkpoints_are_made.ensures client.copy message moved given.0 c.in_ok-message.ensures.kind given.1 in (
+                  record client { copy = given.0; requests = new.requests; synced = client.synced ++ moved.applied },
+                  made held new client message c.in_ok-wire.wire moved given.0 stood c.in_ok-wire.ensures.sends makes,
+                  stands_made held new client moved given.0 None stood given.2 (made_all client.copy message moved given.0 makes) refl refl refl c.in_ok-add_moves.ensures,
+                ),
           ),
     )

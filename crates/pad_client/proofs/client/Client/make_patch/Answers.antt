@@ -12,12 +12,14 @@ returns-clause-makes g c =
     let moved = c.in-Ok.moved in (
       message,
       rw (← c.self.view_is) c.in_ok-wire.ensures.sends,
-      λ client stands clash.
-          let stood = subst (λ (v : View). StandsAs v client) (sym c.self.view_is) stands in
-          let given = makes_as held.copy new.copy message c.in_ok-received.received moved c.in_ok-received.ensures c.in-Ok.ensures.makes client.copy stood.copy clash in (
-            record client { copy = given.0; requests = new.requests; synced = client.synced ++ moved.applied },
+      λ client stands.
+          let stood = subst (λ (v : View). StandsAs v client) (sym c.self.view_is) stands in (
             c.in_ok-message.ensures.is client.copy stood.copy,
-            made held new client message c.in_ok-wire.wire moved given.0 stood c.in_ok-wire.ensures.sends given.1,
-            stands_made held new client moved given.0 client.wanted stood given.2 (made_all client.copy message moved given.0 given.1) refl stood.wanted refl c.in_ok-add_moves.ensures,
+            λ clash.
+                let given = makes_as held.copy new.copy message c.in_ok-received.received moved c.in_ok-received.ensures c.in-Ok.ensures.makes client.copy stood.copy clash in (
+                  record client { copy = given.0; requests = new.requests; synced = client.synced ++ moved.applied },
+                  made held new client message c.in_ok-wire.wire moved given.0 stood c.in_ok-wire.ensures.sends given.1,
+                  stands_made held new client moved given.0 client.wanted stood given.2 (made_all client.copy message moved given.0 given.1) refl stood.wanted refl c.in_ok-add_moves.ensures,
+                ),
           ),
     )
