@@ -1,4 +1,4 @@
-ghost use Rattle.std.specs.Prelude.{◌≡◌, ◌↔◌, ◌+◌, ◌≤◌, ◌&&◌, ◌⊎◌, ◌++◌, true, false, IfOk, OnOk, List, ℕ, length, IfSome, IsSome, IsOk, None, IsErrOf, IsTrue};
+ghost use Rattle.std.specs.Prelude.{◌≡◌, ◌↔◌, ◌+◌, ◌≤◌, ◌&&◌, ◌⊎◌, ◌++◌, true, false, IfOk, OnOk, List, ℕ, length, IfSome, IsSome, IsOk, None, Some, IsErrOf, IsTrue};
 ghost use Rattle.pad_edge.specs.Count.{Rose};
 ghost use Rattle.disk_volume.specs.Moments.{Grew};
 ghost use Rattle.log_format.specs.declared.form.TheConstants.{MOST_ENTRIES_TWO, MOST_BYTES_TWO};
@@ -26,7 +26,7 @@ use std::alloc::Global;
 
 /// Stores 1 to 64 entries under one gate in a channel that is loaded, and answers the index of the first. A channel that was not moved
 /// yet is moved first. `Full` comes exactly if the list has no room for them, by its index or by the log that it was moved to; nothing
-/// is moved, primed or written then, and the channel stays loaded. `Store` comes only where the volume's count of faults rose, and
+/// is moved, primed or written then, and the channel stays as it is. `Store` comes only where the volume's count of faults rose, and
 /// always where it is greater after the call; then the channel has to be loaded again. So it has after `Damaged`. That never comes over
 /// a volume that tells; over another, the move found that the files changed since they were loaded.
 pub fn store_entries<O: Ledger, G: Ledger, V: Volume>(
@@ -49,8 +49,10 @@ pub fn store_entries<O: Ledger, G: Ledger, V: Volume>(
         → IsErrOf result.answer KeeperRefused.Full ↔ ((channel_room payloads (length entries.now) (size_of entries.now) && log_room G.room slot.logs (length entries.now) (size_of entries.now)) ≡ false) }
     ensures nothing { IsErrOf result.answer KeeperRefused.Full → volume.new ≡ volume.old }
     ensures loaded { IsErrOf result.answer KeeperRefused.Full → IsSome result.slot }
+    ensures same { IsErrOf result.answer KeeperRefused.Full → result.slot ≡ Some slot }
     ensures some { IsOk result.answer → IsSome result.slot }
     ensures none { IsErrOf result.answer KeeperRefused.Store → result.slot ≡ None }
+    ensures dropped { (damage : Damage) → IsErrOf result.answer (KeeperRefused.Damaged damage) → result.slot ≡ None }
     ensures made { IfSome result.slot (IsSlotOf (λ log. (O.name log ≡ one.now) × (O.form_of log ≡ Form.One) × IsTrue (O.live log)) (λ log. (G.name log ≡ two.now) × (G.form_of log ≡ Form.Two) × IsTrue (G.live log)) O.count G.count) }
     ensures files { V.tells → Grew (G.owns two.now) (V.disk volume.old) (V.disk volume.new) }
     ensures follows { V.follows volume.old volume.new }
@@ -117,6 +119,7 @@ fn store_group<O: Ledger, G: Ledger, V: Volume>(
     ensures full { IsErrOf result.answer KeeperRefused.Full → ⊥ }
     ensures some { IsOk result.answer → IsSome result.slot }
     ensures none { IsErrOf result.answer KeeperRefused.Store → result.slot ≡ None }
+    ensures dropped { (damage : Damage) → IsErrOf result.answer (KeeperRefused.Damaged damage) → result.slot ≡ None }
     ensures made { IfSome result.slot (IsSlotOf (λ log. (O.name log ≡ one.now) × (O.form_of log ≡ Form.One) × IsTrue (O.live log)) (λ log. (G.name log ≡ two.now) × (G.form_of log ≡ Form.Two) × IsTrue (G.live log)) O.count G.count) }
     ensures files { V.tells → Grew (G.owns two.now) (V.disk volume.old) (V.disk volume.new) }
     ensures follows { V.follows volume.old volume.new }
@@ -156,6 +159,7 @@ fn store_indexed<O: Ledger, G: Ledger, V: Volume>(
     ensures full { IsErrOf result.answer KeeperRefused.Full → ⊥ }
     ensures some { IsOk result.answer → IsSome result.slot }
     ensures none { IsErrOf result.answer KeeperRefused.Store → result.slot ≡ None }
+    ensures dropped { (damage : Damage) → IsErrOf result.answer (KeeperRefused.Damaged damage) → result.slot ≡ None }
     ensures made { IfSome result.slot (IsSlotOf (λ log. (O.name log ≡ one.now) × (O.form_of log ≡ Form.One) × IsTrue (O.live log)) (λ log. (G.name log ≡ two.now) × (G.form_of log ≡ Form.Two) × IsTrue (G.live log)) O.count G.count) }
     ensures files { V.tells → Grew (G.owns two.now) (V.disk volume.old) (V.disk volume.new) }
     ensures follows { V.follows volume.old volume.new }

@@ -1,6 +1,7 @@
-ghost use Rattle.std.specs.Prelude.{◌≡◌, ◌↔◌, ◌≤◌, ◌&&◌, ◌⊎◌, false, List, ℕ, length, IfSome, IsSome, IsOk, None, IsErrOf, IsTrue};
+ghost use Rattle.std.specs.Prelude.{◌≡◌, ◌↔◌, ◌≤◌, ◌&&◌, ◌⊎◌, false, List, ℕ, length, IfSome, IsSome, IsOk, None, Some, IsErrOf, IsTrue};
 ghost use Rattle.pad_edge.specs.Count.{Rose};
 ghost use Rattle.disk_volume.specs.Moments.{EachNow, Grew};
+ghost use Rattle.log_format.specs.declared.damage.Damage.{Damage};
 ghost use Rattle.log_format.specs.declared.frames.TheConstants.{MOST_FRAMES};
 ghost use Rattle.keeper_channel.specs.Chan.{IsList, IsWithin, channel_room};
 ghost use Rattle.keeper_channel.specs.Disks.{Either, SyncsThenActs};
@@ -46,11 +47,13 @@ pub fn store_slot<O: Ledger, G: Ledger, V: Volume>(
         slot held suspense entries.now result.slot result.answer (V.disk volume.old) (V.disk volume.new) }
     ensures some { IsOk result.answer → IsSome result.slot }
     ensures none { IsErrOf result.answer KeeperRefused.Store → result.slot ≡ None }
+    ensures dropped { (damage : Damage) → IsErrOf result.answer (KeeperRefused.Damaged damage) → result.slot ≡ None }
     ensures made { IfSome result.slot (IsSlotOf (λ log. (O.name log ≡ one.now) × (O.form_of log ≡ Form.One) × IsTrue (O.live log)) (λ log. (G.name log ≡ two.now) × (G.form_of log ≡ Form.Two) × IsTrue (G.live log)) O.count G.count) }
     ensures full { IfSome slot (λ slot. (payloads : List (List ℕ)) → IsIndex slot.index payloads
         → IsErrOf result.answer KeeperRefused.Full ↔ ((channel_room payloads (length entries.now) (size_of entries.now) && log_room G.room slot.logs (length entries.now) (size_of entries.now)) ≡ false)) }
     ensures nothing { IsSome slot → IsErrOf result.answer KeeperRefused.Full → volume.new ≡ volume.old }
     ensures loaded { IsErrOf result.answer KeeperRefused.Full → IsSome result.slot }
+    ensures same { IfSome slot (λ slot. IsErrOf result.answer KeeperRefused.Full → result.slot ≡ Some slot) }
     ensures files { V.tells → Grew (Either (O.owns one.now) (G.owns two.now)) (V.disk volume.old) (V.disk volume.new) }
     // The file of form One is only synced.
     ensures acts { V.tells → SyncsThenActs (O.owns one.now) (G.owns two.now) (V.disk volume.old) (V.disk volume.new) }
@@ -85,6 +88,7 @@ fn store_unloaded<O: Ledger, G: Ledger, V: Volume>(
     ensures some { IsOk result.answer → IsSome result.slot }
     ensures loaded { IsErrOf result.answer KeeperRefused.Full → IsSome result.slot }
     ensures none { IsErrOf result.answer KeeperRefused.Store → result.slot ≡ None }
+    ensures dropped { (damage : Damage) → IsErrOf result.answer (KeeperRefused.Damaged damage) → result.slot ≡ None }
     ensures made { IfSome result.slot (IsSlotOf (λ log. (O.name log ≡ one.now) × (O.form_of log ≡ Form.One) × IsTrue (O.live log)) (λ log. (G.name log ≡ two.now) × (G.form_of log ≡ Form.Two) × IsTrue (G.live log)) O.count G.count) }
     ensures files { V.tells → Grew (Either (O.owns one.now) (G.owns two.now)) (V.disk volume.old) (V.disk volume.new) }
     ensures acts { V.tells → SyncsThenActs (O.owns one.now) (G.owns two.now) (V.disk volume.old) (V.disk volume.new) }

@@ -61,6 +61,12 @@ returns-in-Ok-clause-nothing g c = λ full. absurd (c.store_group.ensures.full f
 pub returns-in-Ok-clause-loaded : goal.returns-in-Ok-clause-loaded
 returns-in-Ok-clause-loaded g c = λ full. absurd (c.store_group.ensures.full full)
 
+pub returns-in-Err-clause-dropped : goal.returns-in-Err-clause-dropped
+returns-in-Err-clause-dropped g c = λ damage found. absurd (c.in-Err.ensures.sound damage (err_of c.in-Err.refused (Damaged damage) found))
+
+pub returns-in-Ok-clause-same : goal.returns-in-Ok-clause-same
+returns-in-Ok-clause-same g c = λ full. absurd (c.store_group.ensures.full full)
+
 pub frame_entries-requires-clause-live : goal.frame_entries-requires-clause-live
 frame_entries-requires-clause-live g c =
     let O = g.O.Ledger in let G = g.G.Ledger in let one = c.args.one.now in let two = c.args.two.now in

@@ -26,3 +26,9 @@ returns-in-Some-clause-nothing g c = λ some. c.store_entries.ensures.nothing
 
 pub returns-in-None-clause-nothing : goal.returns-in-None-clause-nothing
 returns-in-None-clause-nothing g c = λ some. let no = rw c.in-None.is at some in absurd (cc)
+
+pub returns-in-Some-clause-same : goal.returns-in-Some-clause-same
+returns-in-Some-clause-same g c = rw c.in-Some.is c.store_entries.ensures.same
+
+pub returns-in-None-clause-same : goal.returns-in-None-clause-same
+returns-in-None-clause-same g c = rw c.in-None.is tt
