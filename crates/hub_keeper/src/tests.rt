@@ -3,6 +3,9 @@ ghost use Rattle.std.specs.Prelude.{List, ℕ, IfOk};
 ghost use Rattle.disk_volume.specs.Disk.{AtRest};
 ghost use Rattle.disk_volume.specs.Memory.{disk_of};
 
+mod day;
+mod limits;
+
 use crate::{HubKeeper, logs_are_apart};
 use disk_volume::{MemVolume, Pick, Volume};
 use gated_log::Log;
@@ -66,7 +69,7 @@ const DAY: [Turn; 5] = [
     },
 ];
 
-/// A text with `@` for the channel's digits, `#` for the keeper's, and `<` for those of the connection.
+/// A text with `@` for the channel's digits, `#` for the keeper's, and `<` and `>` for those of the first two connections.
 fn spelled(alloc: Global, text: &str) -> Result<String, Fail> {
     let mut whole = String::new(alloc);
     for sign in text.chars() {
@@ -74,6 +77,7 @@ fn spelled(alloc: Global, text: &str) -> Result<String, Fail> {
             '@' => whole.push_str("00112233445566778899aabbccddeeff")?,
             '#' => whole.push_str("ade0b876903df1a0")?,
             '<' => whole.push_str("0000000000000001e56a5d4028bd8653")?,
+            '>' => whole.push_str("0000000000000002b819d2bd1aed8da0")?,
             other => whole.push(other)?,
         }
     }
