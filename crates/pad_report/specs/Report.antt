@@ -1,6 +1,6 @@
 -- What a report tells.
-use Rattle.std.specs.Prelude.{ℕ, List}
-use Rattle.pad_model.specs.Report.{ReportValues}
+use Rattle.std.specs.Prelude.{◌≡◌, ℕ, List, ◌++◌, codes}
+use Rattle.pad_model.specs.Report.{ReportValues, line, json_string, report_lines}
 use Rattle.pad_report.specs.declared.report.Report.{Report}
 
 -- the values of the lines, of a report and the text after the best chain
@@ -17,3 +17,7 @@ values report text = record {
   kept = report.kept;
   overtaken = report.overtaken;
 }
+
+-- the bytes are the lines of a report without the last one, which has the text
+abbrev pub IsWithoutText : ReportValues → List ℕ → Type 0
+IsWithoutText values bytes = bytes ++ line (codes "text") (json_string values.units) ≡ report_lines values

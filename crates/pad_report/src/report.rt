@@ -32,12 +32,22 @@ pub struct Report {
 }
 
 impl Report {
-    ghost use Rattle.pad_report.specs.Report.{values};
+    ghost use Rattle.pad_report.specs.Report.{values, IsWithoutText};
 
     /// The eleven lines, with this text after the best chain.
     pub fn lines(&self, alloc: Global, text: &Text) -> Result<String, AllocError>
         requires { self.now.hash ≡ document_hash text.now }
         ensures { IfOk result (λ lines. string_bytes lines ≡ report_lines (values self.now text.now)) }
+    {
+        let mut lines = self.summary(alloc, text)?;
+        push_text(alloc, &mut lines, "text", text)?;
+        Ok(lines)
+    }
+
+    /// The lines without the last one, which has the text after the best chain. That is this text.
+    pub fn summary(&self, alloc: Global, text: &Text) -> Result<String, AllocError>
+        requires { self.now.hash ≡ document_hash text.now }
+        ensures { IfOk result (λ lines. IsWithoutText (values self.now text.now) (string_bytes lines)) }
     {
         let mut lines = String::new(alloc);
         push_name(alloc, &mut lines, "best", &self.best)?;
@@ -50,7 +60,6 @@ impl Report {
         push_place(alloc, &mut lines, "root", &self.root, self.root_height)?;
         push_count(&mut lines, "kept", self.kept)?;
         push_count(&mut lines, "overtaken", self.overtaken)?;
-        push_text(alloc, &mut lines, "text", text)?;
         Ok(lines)
     }
 }

@@ -80,19 +80,20 @@ zeroless (byte ∷ []) begins same = refl
 zeroless (byte ∷ next ∷ rest) begins same = absurd (begins.1 same)
 
 -- what is parsed of a text that begins so is the number as it is written
-pub number_some : {E : Type 0} (text : List ℕ) (parsed : Result ℕ E) → ParsesUnsigned {E = E} 32 10 text parsed → BeginsAsNumber text
-    → IfSome (result_ok parsed) (λ number. (text ≡ decimal number) × (number < 2 ^ 32))
-number_some {E} text (Ok number) parses begins =
-    let plain = parse_plain numbers {E = E} 32 text (Ok number) parses (signless text begins) in
-    let small : digits_value 10 text < 2 ^ 64 = omega (arith, plain.0.2) in
+pub number_some : {E : Type 0} (bits : ℕ) (text : List ℕ) (parsed : Result ℕ E) → 2 ^ bits ≤ 2 ^ 64 → ParsesUnsigned {E = E} bits 10 text parsed → BeginsAsNumber text
+    → IfSome (result_ok parsed) (λ number. (text ≡ decimal number) × (number < 2 ^ bits))
+number_some {E} bits text (Ok number) few parses begins =
+    let plain = parse_plain numbers {E = E} bits text (Ok number) parses (signless text begins) in
+    let small : digits_value 10 text < 2 ^ 64 = omega (arith, plain.0.2, few) in
     (sym (decimal-digits_value numbers text plain.0.0 plain.0.1 (zeroless text begins) small) ∙ ap decimal (sym plain.1), omega (arith, plain.0.2, plain.1))
-number_some text (Err error) parses begins = tt
+number_some bits text (Err error) few parses begins = tt
 
 -- and each number is parsed
-pub number_none : {E : Type 0} (text : List ℕ) (parsed : Result ℕ E) → ParsesUnsigned {E = E} 32 10 text parsed
-    → IfNone (result_ok parsed) ((number : ℕ) → number < 2 ^ 32 → text ≢ decimal number)
-number_none text (Ok number) parses = tt
-number_none {E} text (Err error) parses = λ number small written. let found : Err error ≡ Ok number = parse-decimal {E = E} 32 number text (Err error) small (omega (arith, small)) written parses in absurd (cc)
+pub number_none : {E : Type 0} (bits : ℕ) (text : List ℕ) (parsed : Result ℕ E) → 2 ^ bits ≤ 2 ^ 64 → ParsesUnsigned {E = E} bits 10 text parsed
+    → IfNone (result_ok parsed) ((number : ℕ) → number < 2 ^ bits → text ≢ decimal number)
+number_none bits text (Ok number) few parses = tt
+number_none {E} bits text (Err error) few parses =
+    λ number small written. let found : Err error ≡ Ok number = parse-decimal {E = E} bits number text (Err error) small (omega (arith, small, few)) written parses in absurd (cc)
 
 -- a number that is not in a range is written as none that is
 pub not_within : (text : List ℕ) (number least most other : ℕ) → text ≡ decimal number → number < 2 ^ 32 → most < 2 ^ 32 → ¬ ((least ≤ number) × (number ≤ most))

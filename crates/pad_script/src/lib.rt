@@ -34,7 +34,7 @@ pub use client_line::read_client_line;
 pub use command::{Command, Commands};
 pub use laws::{lines_say_one_act, lines_say_one_session_act, requests_are_bounded};
 pub use line_refused::LineRefused;
-pub use numbers::number_within;
+pub use numbers::{long_number, number_within};
 pub use requests::{LEAST_BYTES, MOST_EACH, MOST_REQUESTS, may_request};
 pub use script::{read_script, read_session};
 pub use script_refused::ScriptRefused;

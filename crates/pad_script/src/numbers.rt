@@ -25,6 +25,17 @@ fn begins_as_number(text: &str) -> bool
     !matches!(text.as_bytes(), [b'+', ..] | [b'0', _, ..])
 }
 
+/// The number of 64 bits that a text is: decimal digits without a sign, and without a zero in front of others.
+pub fn long_number(text: &str) -> Option<u64>
+    ensures some { IfSome result (λ number. (text.now ≡ decimal number) × (number < 2 ^ 64)) }
+    ensures none { IfNone result ((number : ℕ) → number < 2 ^ 64 → text.now ≢ decimal number) }
+{
+    if !begins_as_number(text) {
+        return None;
+    }
+    text.parse().ok()
+}
+
 /// The number that a text is, where it is in this range: decimal digits without a sign, and without a zero in front of others.
 pub fn number_within(text: &str, least: u32, most: u32) -> Option<u32>
     ensures some { IfSome result (λ number. (text.now ≡ decimal number) × (least ≤ number) × (number ≤ most)) }

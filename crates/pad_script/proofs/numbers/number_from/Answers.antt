@@ -12,7 +12,7 @@ returns-then-not-begins_as_number-clause-none c number small written =
 pub returns-clause-some : goal.returns-clause-some
 returns-clause-some c =
     let begins : BeginsAsNumber c.args.text.now = search rules in
-    rw c.ok.ensures.value (number_some c.args.text.now c.parse.result c.parse.ensures.value.0 begins)
+    rw c.ok.ensures.value (number_some 32 c.args.text.now c.parse.result (omega arith) c.parse.ensures.value.0 begins)
 
 pub returns-clause-none : goal.returns-clause-none
-returns-clause-none c = rw c.ok.ensures.value (number_none c.args.text.now c.parse.result c.parse.ensures.value.0)
+returns-clause-none c = rw c.ok.ensures.value (number_none 32 c.args.text.now c.parse.result (omega arith) c.parse.ensures.value.0)
