@@ -186,11 +186,11 @@ os.write(int(sys.argv[1]), f"{os.waitstatus_to_exitcode(status)} {usage.ru_utime
 """
 
 
-def measured(program, contents):
-    """The report, the status, the seconds of processor time and the peak memory in KiB of one run."""
+def measured(program, contents, command=("replay",)):
+    """The report, the status, the seconds of processor time, the peak memory in KiB and the bytes of input of one run."""
     data = "".join(content + "\n" for content in contents).encode()
     reading, writing = os.pipe()
-    words = [sys.executable, "-S", "-c", LAUNCH, str(writing), program, "replay"]
+    words = [sys.executable, "-S", "-c", LAUNCH, str(writing), program, *command]
     with subprocess.Popen(words, stdin=subprocess.PIPE, stdout=subprocess.PIPE, pass_fds=[writing]) as run:
         os.close(writing)
         run.stdin.write(data)

@@ -15,12 +15,11 @@ use Rattle.pad_top.specs.declared.status.Status.TheVariants as status
 use Rattle.pad_top.specs.Input.{most_bytes}
 use Rattle.pad_top.specs.Inside.Told.{IsToldAs}
 use Rattle.pad_lines.specs.Line.{lines_of}
-use Rattle.pad_top.specs.Received.{AreReadAs, HasFewNames}
+use Rattle.pad_received.specs.Contents.{AreReadAs, HasFewNames}
 use Rattle.pad_top.specs.Inside.Refusal.{IsReplayRefusal, status_of}
 use Rattle.pad_top.specs.Replay.{IsReplayed}
 use Rattle.pad_top.specs.Run.{Ends, IsCutShort}
-use Rattle.pad_top.specs.Inside.Ending.{IsEnd}
-use Rattle.pad_top.specs.Status.{status_line}
+use Rattle.pad_top.specs.Inside.Ending.{IsEnd, fixed_line}
 use Rattle.pad_top.specs.Words.{IsReplay}
 
 -- what holds of the bytes that were read holds of those that the source told
@@ -51,7 +50,7 @@ replayed input output messages unreadable short received few report = record {
 
 -- the end of a replay without a report
 pub refusal_ends : (words : List (List ℕ)) (input : Option (List ℕ)) (read_failed : Type 0) (error : ReplayRefused) → IsReplay words → IsReplayRefusal input read_failed error
-    → Ends words input read_failed (status_of error) (status_line (status_of error))
+    → Ends words input read_failed (status_of error) (fixed_line (status_of error))
 refusal_ends words input read_failed refused.ReadFault is why = (is, why, refl)
 refusal_ends words input read_failed refused.Limit is why = (is, why, refl)
 refusal_ends words input read_failed (refused.NoMemory error) is why = (is, refl)

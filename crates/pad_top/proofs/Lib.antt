@@ -2,8 +2,8 @@ mod Ending
 mod Logs
 mod Once
 mod Order
-mod Receiving
 mod Repeats
+mod Scripted
 mod Serving
 mod Taking
 mod WordLemmas

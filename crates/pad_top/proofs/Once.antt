@@ -9,7 +9,8 @@ use Rattle.pad_message.proofs.CallerLemmas.{spells_one}
 use Rattle.pad_model.specs.Base.{first_base}
 use Rattle.pad_model.specs.Count.{IsKnown}
 use Rattle.pad_list.proofs.CallerLemmas.{contains_head, contains_cases}
-use Rattle.pad_top.specs.Received.{LineSpells, ReadsAs, AreReadAs, HasFewNames, IsTaken, IsOneTooMany}
+use Rattle.pad_received.specs.Contents.{LineSpells, ReadsAs, AreReadAs, HasFewNames, IsOneTooMany}
+use Rattle.pad_top.specs.Received.{IsTaken}
 use Rattle.pad_top.specs.Laws.{ReceivedOnce, EndsOnce}
 
 -- a line reads as one outcome

@@ -9,7 +9,7 @@ use Rattle.pad_model.specs.Path.{NamesDiffer}
 use Rattle.pad_model.specs.Report.{IsReport}
 use Rattle.pad_list.proofs.CallerLemmas.{contains_more, contains_cases}
 use Rattle.pad_model.proofs.CallerLemmas.{repeat_changes_no_report}
-use Rattle.pad_top.specs.Received.{ReadsAs, AreReadAs, HasFewNames}
+use Rattle.pad_received.specs.Contents.{ReadsAs, AreReadAs, HasFewNames}
 use Rattle.pad_top.specs.Replay.{IsReplayed}
 use Rattle.pad_top.specs.Laws.{RepeatsChangeNothing}
 use Rattle.pad_top.proofs.Once.{one_list, one_outcome, read_of, read-append}

@@ -3,13 +3,16 @@ use Rattle.std.proofs.Common.{◌≡◌, ℕ, ◌+◌, ◌≤◌, ◌<◌, List,
 use Rattle.std.proofs.lemmas.List.Sums.{sum_by-append}
 use Rattle.std.specs.List.{AllZip, filter_map}
 use Rattle.pad_message.specs.declared.message.Message.{Message}
-use Rattle.pad_top.specs.declared.refused.ReplayRefused.{ReplayRefused}
-use Rattle.pad_top.specs.declared.refused.ReplayRefused.TheVariants as refused
+use Rattle.pad_chain.specs.declared.receive_refused.ReceiveRefused.{ReceiveRefused}
+use Rattle.pad_chain.specs.declared.receive_refused.ReceiveRefused.TheVariants.{Full, NoMemory}
 use Rattle.pad_lines.specs.Line.{lines_of}
-use Rattle.pad_top.specs.Received.{LineSpells, ReadsAs, AreReadAs, HasFewNames, Reaches}
-use Rattle.pad_chain.specs.State.{View}
-use Rattle.pad_top.specs.Inside.Progress.{Progress, IsAt, IsWholeAt, progress_after}
-use Rattle.pad_top.specs.Inside.Refusal.{IsMessageRefusal, IsLineRefusal, IsLinesRefusal}
+use Rattle.pad_received.specs.Contents.{LineSpells, ReadsAs, AreReadAs, HasFewNames}
+use Rattle.pad_received.specs.Progress.{Progress, IsAt, progress_after}
+use Rattle.pad_received.specs.Refusal.{IsLineRefusal}
+use Rattle.pad_received.specs.declared.received.Received.{Received}
+use Rattle.pad_top.specs.Received.{Reaches}
+use Rattle.pad_top.specs.Inside.Progress.{IsWholeAt}
+use Rattle.pad_top.specs.Inside.Refusal.{IsLinesRefusal, refusal_of}
 
 -- the lines of a text before the rest of it are received
 pub record IsSoFar (text rest : List ℕ) (progress : Progress) : Type 0 where
@@ -79,31 +82,31 @@ pub AreReadAs-end : (text rest : List ℕ) (progress : Progress) → IsSoFar tex
 AreReadAs-end text rest progress so_far none =
     subst (λ lines. AreReadAs lines progress.messages progress.unreadable) (sym (so_far.parts ∙ ap (λ lines. so_far.before ++ lines) none ∙ append-nil so_far.before)) so_far.received
 
--- ---- the chain that received them
+-- ---- what is received of them
 
--- the chain received what the lines before the rest of a text read as
-pub record IsHere (text rest : List ℕ) (chain : View) (unreadable : ℕ) : Type 0 where
+-- this was received of what the lines before the rest of a text read as
+pub record IsHere (text rest : List ℕ) (received : Received) : Type 0 where
   pub progress : Progress
   pub so_far : IsSoFar text rest progress
-  pub at : IsAt chain unreadable progress
+  pub at : IsAt received progress
 
-pub here_first : (text : List ℕ) (chain : View) (unreadable : ℕ) → IsAt chain unreadable (record { messages = []; unreadable = 0 }) → IsHere text text chain unreadable
-here_first text chain unreadable at = record { progress = record { messages = []; unreadable = 0 }; so_far = IsSoFar-start text; at = at }
+pub here_first : (text : List ℕ) (received : Received) → IsAt received (record { messages = []; unreadable = 0 }) → IsHere text text received
+here_first text received at = record { progress = record { messages = []; unreadable = 0 }; so_far = IsSoFar-start text; at = at }
 
-pub here_more : (text rest line after : List ℕ) (old new : View) (before number : ℕ) → IsHere text rest old before → lines_of rest ≡ line ∷ lines_of after → length after < length rest
-    → ((outcome : Option Message) × ReadsAs line outcome × ((progress : Progress) → IsAt old before progress → IsAt new number (progress_after outcome progress))) → IsHere text after new number
-here_more text rest line after old new before number here split shorter (outcome, reads, goes_on) = record {
+pub here_more : (text rest line after : List ℕ) (old new : Received) → IsHere text rest old → lines_of rest ≡ line ∷ lines_of after → length after < length rest
+    → ((outcome : Option Message) × ReadsAs line outcome × ((progress : Progress) → IsAt old progress → IsAt new (progress_after outcome progress))) → IsHere text after new
+here_more text rest line after old new here split shorter (outcome, reads, goes_on) = record {
   progress = progress_after outcome here.progress;
   so_far = IsSoFar-more text rest line after here.progress outcome here.so_far split shorter reads;
   at = goes_on here.progress here.at;
 }
 
 -- fewer lines were unreadable than the text has bytes, where a rest is left
-pub here_few : (text rest : List ℕ) (chain : View) (unreadable : ℕ) → IsHere text rest chain unreadable → unreadable + length rest ≤ length text
-here_few text rest chain unreadable here = omega (arith, here.so_far.room, here.at.others)
+pub here_few : (text rest : List ℕ) (received : Received) → IsHere text rest received → received.unreadable + length rest ≤ length text
+here_few text rest received here = omega (arith, here.so_far.room, here.at.others)
 
-pub here_end : (text rest : List ℕ) (chain : View) (unreadable : ℕ) → IsHere text rest chain unreadable → lines_of rest ≡ [] → IsWholeAt text chain unreadable
-here_end text rest chain unreadable here none = (here.progress, AreReadAs-end text rest here.progress here.so_far none, here.at)
+pub here_end : (text rest : List ℕ) (received : Received) → IsHere text rest received → lines_of rest ≡ [] → IsWholeAt text received
+here_end text rest received here none = (here.progress, AreReadAs-end text rest here.progress here.so_far none, here.at)
 
 -- the lines before one are taken
 reaches : (text rest line after : List ℕ) (progress : Progress) (message : Message) → IsSoFar text rest progress → lines_of rest ≡ line ∷ lines_of after
@@ -118,17 +121,9 @@ reaches text rest line after progress message so_far split few spelled = record 
   spelled = spelled;
 }
 
--- a message that is not received stops a replay at its line
-pub line_refusal : (line : List ℕ) (messages : List Message) (message : Message) → LineSpells line message → (error : ReplayRefused) → IsMessageRefusal message messages error
-    → IsLineRefusal line messages error
-line_refusal line messages message spelled refused.ReadFault why = absurd why
-line_refusal line messages message spelled refused.Limit why = (message, spelled, why)
-line_refusal line messages message spelled (refused.NoMemory error) why = tt
-
 -- the line at which a replay stops
-pub IsLinesRefusal-at : (text rest line after : List ℕ) (progress : Progress) (error : ReplayRefused) → IsSoFar text rest progress → lines_of rest ≡ line ∷ lines_of after
-    → IsLineRefusal line progress.messages error → IsLinesRefusal (lines_of text) error
-IsLinesRefusal-at text rest line after progress refused.ReadFault so_far split told = absurd told
-IsLinesRefusal-at text rest line after progress refused.Limit so_far split (message, spelled, why) =
+pub IsLinesRefusal-at : (text rest line after : List ℕ) (progress : Progress) (error : ReceiveRefused) → IsSoFar text rest progress → lines_of rest ≡ line ∷ lines_of after
+    → IsLineRefusal line progress.messages error → IsLinesRefusal (lines_of text) (refusal_of error)
+IsLinesRefusal-at text rest line after progress Full so_far split (message, spelled, why) =
     (progress.messages, message, reaches text rest line after progress message so_far split why.0 spelled, why.1)
-IsLinesRefusal-at text rest line after progress (refused.NoMemory error) so_far split told = tt
+IsLinesRefusal-at text rest line after progress (NoMemory error) so_far split told = tt

@@ -3,7 +3,7 @@ use Rattle.std.proofs.Common.{◌≡◌, ◌≤◌, inl, inr, ℕ, Bool, true, f
 use Rattle.std.specs.Cmp.Lexicographic.{pointwise, bytes_decides, same_text}
 use Rattle.std.proofs.lemmas.Fmt.{decimal_injective}
 use Rattle.std.specs.Prelude.{codes, decimal, ◌==◌, ◌≢◌}
-use Rattle.pad_top.specs.Words.{IsReplay, AsksLog, IsLog, IsServe, AsksServe, IsCommand}
+use Rattle.pad_top.specs.Words.{IsReplay, AsksLog, IsLog, IsServe, AsksServe, IsGenerate, AsksGenerate, AsksClient, IsCommand}
 
 -- a list of one element maps to one
 map-one : {A : Type 0} (f : A → List ℕ) (xs : List A) (x : A) → length xs ≡ 1 → x ≡ get_or xs 0 x → map f xs ≡ f x ∷ []
@@ -48,10 +48,30 @@ same_turns words address folder other_address other_folder one other first secon
     decimal_injective one other (omega (arith, most_one)) (omega (arith, most_other)) said
 
 -- words that ask for none of the commands are no command
-pub no_command : (words : List (List ℕ)) → ¬ (IsReplay words) → ¬ (AsksLog words) → ¬ (AsksServe words) → ¬ (IsCommand words)
-no_command words no_replay no_log no_server (inl replay) = no_replay replay
-no_command words no_replay no_log no_server (inr (inl asks)) = no_log asks
-no_command words no_replay no_log no_server (inr (inr asks)) = no_server asks
+pub no_command : (words : List (List ℕ)) → ¬ (IsReplay words) → ¬ (AsksLog words) → ¬ (AsksServe words) → ¬ (AsksGenerate words) → ¬ (AsksClient words) → ¬ (IsCommand words)
+no_command words no_replay no_log no_server no_generator no_client (inl replay) = no_replay replay
+no_command words no_replay no_log no_server no_generator no_client (inr (inl asks)) = no_log asks
+no_command words no_replay no_log no_server no_generator no_client (inr (inr (inl asks))) = no_server asks
+no_command words no_replay no_log no_server no_generator no_client (inr (inr (inr (inl asks)))) = no_generator asks
+no_command words no_replay no_log no_server no_generator no_client (inr (inr (inr (inr asks)))) = no_client asks
+
+-- the words name one number and one count of messages
+pub same_messages : (words : List (List ℕ)) (number count other_number other_count : ℕ) → IsGenerate words number count → IsGenerate words other_number other_count
+    → (number ≡ other_number) × (count ≡ other_count)
+same_messages words number count other_number other_count first second =
+    let both : codes "generate" ∷ decimal number ∷ decimal count ∷ [] ≡ codes "generate" ∷ decimal other_number ∷ decimal other_count ∷ [] = sym first.0 ∙ second.0 in
+    let numbers : decimal number ≡ decimal other_number = cc in
+    let counts : decimal count ≡ decimal other_count = cc in
+    let most_one : count ≤ 100000 = first.3 in
+    let most_other : other_count ≤ 100000 = second.3 in
+    (decimal_injective number other_number first.1 second.1 numbers, decimal_injective count other_count (omega (arith, most_one)) (omega (arith, most_other)) counts)
+
+-- a list of two elements maps to two
+pub two_words : {A : Type 0} (f : A → List ℕ) (xs : List A) (x y : A) → length xs ≡ 2 → x ≡ get_or xs 0 x → y ≡ get_or xs 1 y → map f xs ≡ f x ∷ f y ∷ []
+two_words f [] x y two first second = absurd (omega arith)
+two_words f (a ∷ []) x y two first second = absurd (omega arith)
+two_words f (a ∷ b ∷ []) x y two first second = ap (λ w. f w ∷ f b ∷ []) (sym first) ∙ ap (λ w. f x ∷ f w ∷ []) (sym second)
+two_words f (a ∷ b ∷ d ∷ xs) x y two first second = absurd (omega arith)
 
 -- a list of three elements maps to three
 pub three_words : {A : Type 0} (f : A → List ℕ) (xs : List A) (x y z : A) → length xs ≡ 3 → x ≡ get_or xs 0 x → y ≡ get_or xs 1 y → z ≡ get_or xs 2 z

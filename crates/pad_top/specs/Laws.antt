@@ -5,7 +5,7 @@ use Rattle.pad_model.specs.Laws.{SameMembers}
 use Rattle.pad_model.specs.Path.{NamesDiffer}
 use Rattle.pad_top.specs.Input.{most_bytes}
 use Rattle.pad_lines.specs.Line.{lines_of}
-use Rattle.pad_top.specs.Received.{LineSpells, AreReadAs}
+use Rattle.pad_received.specs.Contents.{LineSpells, AreReadAs}
 use Rattle.pad_top.specs.Replay.{IsReplayed, IsPastLimit}
 
 -- lines are received as one list of messages, with one number of others

@@ -1,3 +1,5 @@
+pub mod Client
+pub mod Generate
 pub mod Input
 pub mod Inside
 pub mod Laws

@@ -48,9 +48,11 @@ LogEnds channel told files store_failed status.StoreFault output =
     store_failed × ((part : List ℕ) × IsPartOfLog channel told files part × (output ≡ part ++ status_line status.StoreFault))
 LogEnds channel told files store_failed status.LinkFault output = ⊥
 LogEnds channel told files store_failed status.Limit output = ⊥
+LogEnds channel told files store_failed (status.BadScript number) output = ⊥
 LogEnds channel told files store_failed status.NoMemory output = IsPartOfLog channel told files output
 LogEnds channel told files store_failed status.Damaged output = (part : List ℕ) × IsPartOfLog channel told files part
     × (told → (part ≡ []) × ((damage : Damage) × IsChannelDamage channel files damage)) × (output ≡ part ++ status_line status.Damaged)
+LogEnds channel told files store_failed status.EndedEarly output = ⊥
 
 -- a run of `log` that a failed write stopped wrote a part from the front of what it would have written
 abbrev pub LogIsCutShort : (channel : List ℕ) → (told : Type 0) → (files : List ℕ → List ℕ) → (store_failed : Type 0) → Option (List ℕ) → Option (List ℕ) → Type 0

@@ -1,4 +1,4 @@
--- How a run ends whose words ask for no folder: a replay, and words that are no command.
+-- How a replay ends, and a run whose words are no command.
 use Rattle.std.specs.Prelude.{◌≡◌, ℕ, List, [], Option, IfSome}
 use Rattle.pad_output.specs.Output.{AppendsPartOfSome}
 use Rattle.pad_top.specs.declared.status.Status.{Status}
@@ -17,8 +17,10 @@ Ends words input read_failed status.WriteFault output = ⊥
 Ends words input read_failed status.StoreFault output = ⊥
 Ends words input read_failed status.LinkFault output = ⊥
 Ends words input read_failed status.Limit output = IsReplay words × IfSome input IsPastLimit × (output ≡ status_line status.Limit)
+Ends words input read_failed (status.BadScript number) output = ⊥
 Ends words input read_failed status.NoMemory output = IsReplay words × (output ≡ [])
 Ends words input read_failed status.Damaged output = ⊥
+Ends words input read_failed status.EndedEarly output = ⊥
 
 -- a run that a failed write stopped wrote a part from the front of what it would have written
 abbrev pub IsCutShort : List (List ℕ) → Option (List ℕ) → Type 0 → Option (List ℕ) → Option (List ℕ) → Type 0

@@ -42,8 +42,10 @@ ServeEnds done stopped store_failed link_failed status.WriteFault output = ⊥
 ServeEnds done stopped store_failed link_failed status.StoreFault output = store_failed × stopped × (output ≡ status_line status.StoreFault)
 ServeEnds done stopped store_failed link_failed status.LinkFault output = link_failed × stopped × (output ≡ status_line status.LinkFault)
 ServeEnds done stopped store_failed link_failed status.Limit output = ⊥
+ServeEnds done stopped store_failed link_failed (status.BadScript number) output = ⊥
 ServeEnds done stopped store_failed link_failed status.NoMemory output = stopped × (output ≡ [])
 ServeEnds done stopped store_failed link_failed status.Damaged output = ⊥
+ServeEnds done stopped store_failed link_failed status.EndedEarly output = ⊥
 
 -- a run of `serve` that a failed write stopped wrote a part from the front of what it would have written
 abbrev pub ServeIsCutShort : (done : (made : ℕ) → Type 0) → (stopped store_failed link_failed : Type 0) → (old new : Option (List ℕ)) → Type 0

@@ -9,37 +9,44 @@ ghost use Rattle.log_format.specs.declared.damage.Damage.{Damage};
 ghost use Rattle.netflux_core.specs.Runs.{IsOwned};
 ghost use Rattle.pad_serve.specs.Leaves.{Stays};
 ghost use Rattle.serve_loop.specs.Run.{AreCalls};
+ghost use Rattle.pad_top.specs.Client.{IsScriptDone, IsScriptStopped, ClientEnds, ClientIsCutShort, IsShortScript};
+ghost use Rattle.pad_top.specs.Generate.{GenerateEnds, GenerateIsCutShort};
 ghost use Rattle.pad_top.specs.Log.{IsChannelDamage, IsChannelFile, LogEnds, LogIsCutShort};
 ghost use Rattle.pad_top.specs.Replay.{IsReplayed, IsPastLimit};
 ghost use Rattle.pad_top.specs.Run.{Ends, IsCutShort};
 ghost use Rattle.pad_top.specs.Serve.{channel_logs, HasStopped, IsDone, ServeEnds, ServeIsCutShort};
-ghost use Rattle.pad_top.specs.Words.{IsReplay, IsLog, IsServe, AsksNoFolder, AsksServe};
+ghost use Rattle.pad_top.specs.Words.{IsReplay, IsLog, IsServe, IsGenerate, AsksClient, AsksGenerate, AsksNoFolder, AsksNoOther, AsksServe};
 
+use crate::client::client;
 use crate::end::end;
+use crate::generate::generate;
 use crate::log::log;
 use crate::replay::replay;
 use crate::serve::serve;
 use crate::status::Status;
-use crate::words::{is_replay, log_words, serve_words};
+use crate::words::{client_address, generate_words, is_replay, log_words, serve_words};
 use disk_volume::Volume;
-use pad_edge::{Clock, Port, Sink, Source};
+use pad_edge::{Clock, Link, Port, Sink, Source};
 use std::alloc::Global;
 use std::marker::Brand;
 use std::sync::ledger::Blank;
 
-/// Runs the command that the words ask for, over what comes in, what goes out, files, a port and a clock, and tells how that ended.
+/// Runs the command that the words ask for, over what comes in, what goes out, files, a port, a link and a clock, and tells how that ended.
 ///
 /// `replay` reads contents, one a line, and writes the report of the best chain of the messages that they spell.
 /// `log FOLDER CHANNEL` writes the entries of a channel, one a line, and how many there are. It changes no file.
 /// `serve ADDRESS FOLDER TURNS` serves the channels of a folder at an address, for so many turns or until the port ended, and writes
 /// how many turns it made. Its identities come of the key.
-pub fn run<I: Source, O: Sink, V: Volume, P: Port, C: Clock>(
+/// `client ADDRESS` reads a script, connects to the server at an address and carries the script out, and writes what that says.
+/// `generate NUMBER COUNT` generates so many messages of a number and writes their report without its text.
+pub fn run<I: Source, O: Sink, V: Volume, P: Port, L: Link, C: Clock>(
     alloc: Global,
     words: &[String],
     input: &mut I,
     output: &mut O,
     volume: &mut V,
     port: &mut P,
+    link: &mut L,
     clock: &mut C,
     key: [u8; 32],
 ) -> Status
@@ -53,11 +60,11 @@ pub fn run<I: Source, O: Sink, V: Volume, P: Port, C: Clock>(
 
     // How it ends: each status comes where `Ends` says so, with all written that is said there. After a failed write a
     // part from the front of that is written.
-    ensures whole { AsksNoFolder (map string_bytes words.now) → result ≢ Status.WriteFault →
+    ensures whole { AsksNoOther (map string_bytes words.now) → result ≢ Status.WriteFault →
         let read_failed = Rose (I.faults input.old) (I.faults input.new) in
         AppendsSome (Ends (map string_bytes words.now) (I.left input.old) read_failed result)
         (O.written output.old) (O.written output.new) }
-    ensures part { AsksNoFolder (map string_bytes words.now) → result ≡ Status.WriteFault →
+    ensures part { AsksNoOther (map string_bytes words.now) → result ≡ Status.WriteFault →
         let read_failed = Rose (I.faults input.old) (I.faults input.new) in
         IsCutShort (map string_bytes words.now) (I.left input.old) read_failed
         (O.written output.old) (O.written output.new) }
@@ -88,6 +95,27 @@ pub fn run<I: Source, O: Sink, V: Volume, P: Port, C: Clock>(
     ensures calls { P.tells → (address folder : List ℕ) (turns : ℕ) → IsServe (map string_bytes words.now) address folder turns →
         (events : List PortEvent) × (P.events port.new ≡ P.events port.old ++ events) × AreCalls turns events }
 
+    // A client ends where `ClientEnds` says so, with what is said there written and sent. Done to its end, it has read its whole input.
+    ensures client { AsksClient (map string_bytes words.now) → result ≢ Status.WriteFault →
+        let done = IsScriptDone (I.left input.old) L.tells (L.heard link.old) (L.heard link.new) (L.sent link.old) (L.sent link.new) in
+        let stopped = IsScriptStopped (I.left input.old) L.tells (L.heard link.old) (L.heard link.new) (L.sent link.old) (L.sent link.new) in
+        let read_failed = Rose (I.faults input.old) (I.faults input.new) in
+        let link_failed = Rose (L.faults link.old) (L.faults link.new) in let link_ended = Rose (L.ends link.old) (L.ends link.new) in
+        AppendsSome (ClientEnds (I.left input.old) done stopped (link.new ≡ link.old) read_failed link_failed link_ended result) (O.written output.old) (O.written output.new) }
+    ensures client_part { AsksClient (map string_bytes words.now) → result ≡ Status.WriteFault →
+        let done = IsScriptDone (I.left input.old) L.tells (L.heard link.old) (L.heard link.new) (L.sent link.old) (L.sent link.new) in
+        let stopped = IsScriptStopped (I.left input.old) L.tells (L.heard link.old) (L.heard link.new) (L.sent link.old) (L.sent link.new) in
+        let read_failed = Rose (I.faults input.old) (I.faults input.new) in
+        let link_failed = Rose (L.faults link.old) (L.faults link.new) in let link_ended = Rose (L.ends link.old) (L.ends link.new) in
+        ClientIsCutShort (I.left input.old) done stopped (link.new ≡ link.old) read_failed link_failed link_ended (O.written output.old) (O.written output.new) }
+    ensures client_ended { AsksClient (map string_bytes words.now) → result ≡ Status.Ok → IsAtEnd (I.left input.new) }
+
+    // Generating ends where `GenerateEnds` says so, with what is said there written.
+    ensures generate { (number count : ℕ) → IsGenerate (map string_bytes words.now) number count → result ≢ Status.WriteFault →
+        AppendsSome (GenerateEnds number count result) (O.written output.old) (O.written output.new) }
+    ensures generate_part { (number count : ℕ) → IsGenerate (map string_bytes words.now) number count → result ≡ Status.WriteFault →
+        GenerateIsCutShort number count (O.written output.old) (O.written output.new) }
+
     // It leaves files that are no channel's as they were, and port and clock where the folder could not be chosen.
     ensures others { AsksServe (map string_bytes words.now) → V.tells → (file : List ℕ) → (IsOwned channel_logs.owns file → ⊥)
         → Stays (V.disk volume.old) (V.disk volume.new) file }
@@ -96,20 +124,28 @@ pub fn run<I: Source, O: Sink, V: Volume, P: Port, C: Clock>(
     // Each fault has its cause.
     ensures write_fault { result ≡ Status.WriteFault → Rose (O.faults output.old) (O.faults output.new) }
     ensures store_fault { result ≡ Status.StoreFault → Rose (V.faults volume.old) (V.faults volume.new) }
-    ensures link_fault { result ≡ Status.LinkFault → Rose (P.faults port.old) (P.faults port.new) }
+    ensures link_fault { result ≡ Status.LinkFault → (AsksServe (map string_bytes words.now) × Rose (P.faults port.old) (P.faults port.new))
+        ⊎ (AsksClient (map string_bytes words.now) × Rose (L.faults link.old) (L.faults link.new)) }
+    ensures early { result ≡ Status.EndedEarly → AsksClient (map string_bytes words.now) × Rose (L.ends link.old) (L.ends link.new) }
 
-    // Faults are told: a failed write before all else, and a failed read, a port that failed or, but for a server, a failed call of the volume where no
-    // write failed.
+    // Faults are told: a failed write before all else, and a failed read, a port or a link that failed or, but for a server, a failed call of the volume
+    // where no write failed. So is a link that ended.
     ensures write_told { O.faults output.old < O.faults output.new → result ≡ Status.WriteFault }
     ensures read_told { I.faults input.old < I.faults input.new
         → (result ≡ Status.ReadFault) ⊎ (result ≡ Status.WriteFault) }
     ensures link_told { P.faults port.old < P.faults port.new
         → (result ≡ Status.LinkFault) ⊎ (result ≡ Status.WriteFault) }
+    ensures client_told { L.faults link.old < L.faults link.new
+        → (result ≡ Status.LinkFault) ⊎ (result ≡ Status.WriteFault) }
+    ensures early_told { L.ends link.old < L.ends link.new
+        → (result ≡ Status.EndedEarly) ⊎ (result ≡ Status.WriteFault) }
     ensures store_told { ¬ (AsksServe (map string_bytes words.now)) → V.faults volume.old < V.faults volume.new
         → (result ≡ Status.StoreFault) ⊎ (result ≡ Status.WriteFault) }
 
-    // The input is a replay's alone, port and clock are a server's, and the folder is a server's and a log's, which only syncs the files of its channel.
-    ensures untouched { ¬ (IsReplay (map string_bytes words.now)) → input.new ≡ input.old }
+    // The input is a replay's and a client's alone, the link a client's, port and clock are a server's, and the folder is a server's and a log's, which only
+    // syncs the files of its channel.
+    ensures untouched { ¬ (IsReplay (map string_bytes words.now)) → ¬ (AsksClient (map string_bytes words.now)) → input.new ≡ input.old }
+    ensures link_untouched { ¬ (AsksClient (map string_bytes words.now)) → link.new ≡ link.old }
     ensures port_untouched { ¬ (AsksServe (map string_bytes words.now)) → port.new ≡ port.old }
     ensures clock_untouched { ¬ (AsksServe (map string_bytes words.now)) → clock.new ≡ clock.old }
     ensures volume_untouched { AsksNoFolder (map string_bytes words.now) → volume.new ≡ volume.old }
@@ -132,6 +168,15 @@ pub fn run<I: Source, O: Sink, V: Volume, P: Port, C: Clock>(
     ensures serve_complete { AsksServe (map string_bytes words.now) → ¬ (Rose (V.faults volume.old) (V.faults volume.new))
         → ¬ (Rose (P.faults port.old) (P.faults port.new)) → ¬ (Rose (O.faults output.old) (O.faults output.new))
         → (result ≡ Status.Ok) ⊎ (result ≡ Status.NoMemory) }
+
+    // And so is generating.
+    ensures generate_complete { AsksGenerate (map string_bytes words.now) → ¬ (Rose (O.faults output.old) (O.faults output.new))
+        → (result ≡ Status.Ok) ⊎ (result ≡ Status.NoMemory) }
+
+    // A client without a failure, whose input is a script and whose link does not end, is done to its end, or wants memory, or would know too many names.
+    ensures client_complete { AsksClient (map string_bytes words.now) → IsSomeAnd (I.left input.old) IsShortScript
+        → ¬ (Rose (I.faults input.old) (I.faults input.new)) → ¬ (Rose (L.faults link.old) (L.faults link.new)) → ¬ (Rose (L.ends link.old) (L.ends link.new))
+        → ¬ (Rose (O.faults output.old) (O.faults output.new)) → (result ≡ Status.Ok) ⊎ ((result ≡ Status.NoMemory) ⊎ (result ≡ Status.Limit)) }
 {
     if is_replay(words) {
         return run_replay(alloc, input, output);
@@ -139,9 +184,15 @@ pub fn run<I: Source, O: Sink, V: Volume, P: Port, C: Clock>(
     if let Some(words) = serve_words(words) {
         return serve(alloc, &words, output, volume, port, clock, key);
     }
+    if let Some(address) = client_address(words) {
+        return client(alloc, address, input, output, link);
+    }
     match log_words(words) {
         Some(words) => log(alloc, &words, output, volume),
-        None => end(output, Status::Usage.line(), Status::Usage),
+        None => match generate_words(words) {
+            Some(words) => generate(alloc, words, output),
+            None => end(output, Status::Usage.line(), Status::Usage),
+        },
     }
 }
 
@@ -158,7 +209,7 @@ fn run_replay<I: Source, O: Sink>(alloc: Global, input: &mut I, output: &mut O) 
         IsCutShort words (I.left input.old) read_failed (O.written output.old) (O.written output.new) }
     ensures write_fault { result ≡ Status.WriteFault → Rose (O.faults output.old) (O.faults output.new) }
     ensures no_store { result ≢ Status.StoreFault }
-    ensures no_link { result ≢ Status.LinkFault }
+    ensures no_link { (result ≢ Status.LinkFault) × (result ≢ Status.EndedEarly) }
     ensures write_told { O.faults output.old < O.faults output.new → result ≡ Status.WriteFault }
     ensures read_told { I.faults input.old < I.faults input.new
         → (result ≡ Status.ReadFault) ⊎ (result ≡ Status.WriteFault) }

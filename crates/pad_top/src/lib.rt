@@ -1,13 +1,13 @@
 //! The commands of the program, over what comes in and what goes out.
 #![tactic(auto)]
 
+mod client;
 mod command;
 mod end;
+mod generate;
 mod input;
 mod laws;
 mod log;
-mod read_line;
-mod received;
 mod refused;
 mod replay;
 mod rest;
@@ -20,10 +20,3 @@ pub use laws::{
     inputs_end_once, lines_are_received_once, order_changes_no_best, repeats_change_nothing,
 };
 pub use status::Status;
-
-#[cfg(test)]
-mod checkpoint_tests;
-#[cfg(test)]
-mod serve_tests;
-#[cfg(test)]
-mod tests;

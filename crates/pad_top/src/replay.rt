@@ -7,12 +7,12 @@ ghost use Rattle.pad_top.specs.Inside.Refusal.{IsReplayRefusal, IsLinesRefusal};
 ghost use Rattle.pad_top.specs.Replay.{IsReplayed};
 
 use crate::input::read_all;
-use crate::received::Received;
 use crate::refused::ReplayRefused;
 use crate::rest::Rest;
 use pad_edge::Source;
 use pad_lines::split_line;
 use pad_patch::Steps;
+use pad_received::Received;
 use std::alloc::Global;
 use std::sync::ledger::{Blank, Ledger};
 
@@ -43,7 +43,7 @@ fn receive_lines<L: Ledger>(
     text: Vec<u8>,
     steps: &mut Steps<L>,
 ) -> Result<Received, ReplayRefused>
-    ensures received { IfOk result (λ received. IsWholeAt text.items received.chain received.unreadable) }
+    ensures received { IfOk result (IsWholeAt text.items) }
     ensures refused { IfErr result (IsLinesRefusal (lines_of text.items)) }
 {
     let mut received = Received::new(alloc)?;

@@ -1,9 +1,10 @@
 ghost use Rattle.std.specs.Prelude.{◌≡◌, ◌≢◌, ◌↔◌, map, string_bytes, IsTrue, IfSome, IfNone};
 ghost use Rattle.pad_text.specs.Digits.{IsDigits};
-ghost use Rattle.pad_top.specs.Words.{IsReplay, IsLog, AsksLog, IsServe, AsksServe};
+ghost use Rattle.pad_top.specs.Words.{IsReplay, IsLog, AsksLog, IsServe, AsksServe, IsGenerate, AsksGenerate, IsClient, AsksClient};
 
 use netflux_codec::Channel;
-use pad_script::number_within;
+use pad_generator::MOST_MESSAGES;
+use pad_script::{long_number, number_within};
 use pad_serve::ServeWords;
 
 /// How many turns a server has at most.
@@ -14,6 +15,13 @@ pub const MOST_TURNS: u32 = 1_000_000_000;
 pub(crate) struct LogWords<'a> {
     pub(crate) folder: &'a str,
     pub(crate) channel: Channel,
+}
+
+/// The number and the count of a command `generate`.
+#[derive(Clone, Copy)]
+pub(crate) struct GenerateWords {
+    pub(crate) number: u64,
+    pub(crate) count: u32,
 }
 
 /// Whether the words ask for a replay.
@@ -63,6 +71,38 @@ pub(crate) fn serve_words(words: &[String]) -> Option<ServeWords<'_>>
                 }),
                 None => None,
             }
+        }
+        _ => None,
+    }
+}
+
+/// What the words say of generating, if they ask for it.
+pub(crate) fn generate_words(words: &[String]) -> Option<GenerateWords>
+    ensures some { IfSome result (λ generate. IsGenerate (map string_bytes words.now) generate.number generate.count) }
+    ensures none { IfNone result (¬ (AsksGenerate (map string_bytes words.now))) }
+{
+    match words {
+        [word, number, count] if word.as_str() == "generate" => {
+            match long_number(number.as_str()) {
+                Some(number) => match number_within(count.as_str(), 1, MOST_MESSAGES) {
+                    Some(count) => Some(GenerateWords { number, count }),
+                    None => None,
+                },
+                None => None,
+            }
+        }
+        _ => None,
+    }
+}
+
+/// The address that a client connects to, if the words ask for one.
+pub(crate) fn client_address(words: &[String]) -> Option<&str>
+    ensures some { IfSome result (λ address. IsClient (map string_bytes words.now) address.now) }
+    ensures none { IfNone result (¬ (AsksClient (map string_bytes words.now))) }
+{
+    match words {
+        [word, address] if word.as_str() == "client" && !address.as_str().is_empty() => {
+            Some(address.as_str())
         }
         _ => None,
     }

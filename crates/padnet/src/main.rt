@@ -12,7 +12,7 @@ use std::env;
 use std::fs::File;
 use std::io::{self, ErrorKind, Read};
 use std::process::ExitCode;
-use ws_edge::WsPort;
+use ws_edge::{WsLink, WsPort};
 
 fn main(rt: HostRuntime) -> ExitCode {
     let words = match words(&rt) {
@@ -33,6 +33,7 @@ fn run_over_system(rt: &HostRuntime, words: &[String]) -> Result<Status, AllocEr
     let mut output = WriterSink::new(rt.stdout());
     let mut volume = FileVolume::new(rt.alloc(), rt.clone()?);
     let mut port = WsPort::new(rt.alloc(), rt.clone()?);
+    let mut link = WsLink::new(rt.alloc(), rt.clone()?);
     let mut clock = SystemClock::new(rt.clone()?);
     Ok(run(
         rt.alloc(),
@@ -41,6 +42,7 @@ fn run_over_system(rt: &HostRuntime, words: &[String]) -> Result<Status, AllocEr
         &mut output,
         &mut volume,
         &mut port,
+        &mut link,
         &mut clock,
         key(rt),
     ))

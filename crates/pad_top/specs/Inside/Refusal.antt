@@ -1,6 +1,5 @@
 -- Why a replay has no report, and the status that it ends with then.
 use Rattle.std.specs.Prelude.{⊤, ℕ, ◌<◌, List, length, Option, IfSome}
-use Rattle.pad_message.specs.declared.message.Message.{Message}
 use Rattle.pad_chain.specs.declared.receive_refused.ReceiveRefused.{ReceiveRefused}
 use Rattle.pad_chain.specs.declared.receive_refused.ReceiveRefused.TheVariants as receive
 use Rattle.pad_top.specs.declared.refused.ReplayRefused.{ReplayRefused}
@@ -8,7 +7,7 @@ use Rattle.pad_top.specs.declared.refused.ReplayRefused.TheVariants as refused
 use Rattle.pad_top.specs.declared.status.Status.{Status}
 use Rattle.pad_top.specs.declared.status.Status.TheVariants as status
 use Rattle.pad_top.specs.Input.{most_bytes}
-use Rattle.pad_top.specs.Received.{LineSpells, HasFewNames, IsOneTooMany, MeetsOneTooMany}
+use Rattle.pad_top.specs.Received.{MeetsOneTooMany}
 use Rattle.pad_top.specs.Replay.{IsPastLimit}
 
 -- why the input was not read to its end
@@ -33,18 +32,6 @@ status_of (refused.NoMemory error) = status.NoMemory
 abbrev pub refusal_of : ReceiveRefused → ReplayRefused
 refusal_of receive.Full = refused.Limit
 refusal_of (receive.NoMemory error) = refused.NoMemory error
-
--- why a message was not received
-abbrev pub IsMessageRefusal : Message → List Message → ReplayRefused → Type 0
-IsMessageRefusal message messages refused.ReadFault = ⊥
-IsMessageRefusal message messages refused.Limit = HasFewNames messages × IsOneTooMany messages message
-IsMessageRefusal message messages (refused.NoMemory error) = ⊤
-
--- why a line was not received
-abbrev pub IsLineRefusal : List ℕ → List Message → ReplayRefused → Type 0
-IsLineRefusal line messages refused.ReadFault = ⊥
-IsLineRefusal line messages refused.Limit = (message : Message) × LineSpells line message × IsMessageRefusal message messages refused.Limit
-IsLineRefusal line messages (refused.NoMemory error) = ⊤
 
 -- why the lines were not received to their end
 abbrev pub IsLinesRefusal : List (List ℕ) → ReplayRefused → Type 0

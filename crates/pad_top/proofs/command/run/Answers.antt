@@ -7,11 +7,12 @@ use Rattle.disk_volume.specs.Disk.{reads}
 use Rattle.log_format.specs.declared.damage.Damage.{Damage}
 use Rattle.pad_output.specs.Output.{AppendsSome}
 use Rattle.pad_top.specs.declared.status.Status.TheVariants as status
+use Rattle.pad_top.specs.Generate.{GenerateEnds, GenerateIsCutShort}
 use Rattle.pad_top.specs.Log.{IsChannelDamage, LogEnds, LogIsCutShort}
 use Rattle.pad_top.specs.Serve.{HasStopped, IsDone, ServeEnds, ServeIsCutShort}
 use Rattle.pad_top.specs.Words.{IsReplay}
 use Rattle.pad_top.proofs.Ending.{cut_short, not_cut}
-use Rattle.pad_top.proofs.WordLemmas.{same_channel, same_turns, no_command}
+use Rattle.pad_top.proofs.WordLemmas.{same_channel, same_turns, same_messages, no_command}
 use Rattle.pad_top.proofs.command.run.Goals as goal
 
 pub returns-in-Some-log_words-clause-log : goal.returns-in-Some-log_words-clause-log
@@ -72,14 +73,28 @@ returns-in-Some-clause-calls g c told address folder turns is =
     let same = same_turns (map string_bytes c.args.words.now) words.address.now words.folder.now address folder words.turns turns c.in-Some.ensures.some is in
     subst (λ n. (events : List PortEvent) × (g.P.Port.events c.serve.new.port ≡ g.P.Port.events c.args.port.now ++ events) × AreCalls n events) same (c.serve.ensures.calls told)
 
-pub returns-in-None-clause-whole : goal.returns-in-None-clause-whole
-returns-in-None-clause-whole g c no_folder other =
-    let words = map string_bytes c.args.words.now in
-    let no_replay : ¬ (IsReplay words) = λ is. let both : false ≡ true = c.if-is_replay.ensures.1 is in cc in
-    not_cut _ _ _ _ _ _ _ _ _ c.end.ensures.end (no_command words no_replay no_folder.0 no_folder.1, c.line.ensures) other
+pub returns-in-Some-generate_words-clause-generate : goal.returns-in-Some-generate_words-clause-generate
+returns-in-Some-generate_words-clause-generate g c number count is other =
+    let words = c.in-Some-generate_words.words in
+    let same = same_messages (map string_bytes c.args.words.now) words.number words.count number count c.in-Some-generate_words.ensures.some is in
+    subst (λ n. AppendsSome (GenerateEnds number n c.generate.result) (g.O.Sink.written c.args.output.now) (g.O.Sink.written c.generate.new.output)) same.1
+    (subst (λ n. AppendsSome (GenerateEnds n words.count c.generate.result) (g.O.Sink.written c.args.output.now) (g.O.Sink.written c.generate.new.output)) same.0 (c.generate.ensures.whole other))
 
-pub returns-in-None-clause-part : goal.returns-in-None-clause-part
-returns-in-None-clause-part g c no_folder =
+pub returns-in-Some-generate_words-clause-generate_part : goal.returns-in-Some-generate_words-clause-generate_part
+returns-in-Some-generate_words-clause-generate_part g c number count is cut =
+    let words = c.in-Some-generate_words.words in
+    let same = same_messages (map string_bytes c.args.words.now) words.number words.count number count c.in-Some-generate_words.ensures.some is in
+    subst (λ n. GenerateIsCutShort number n (g.O.Sink.written c.args.output.now) (g.O.Sink.written c.generate.new.output)) same.1
+    (subst (λ n. GenerateIsCutShort n words.count (g.O.Sink.written c.args.output.now) (g.O.Sink.written c.generate.new.output)) same.0 (c.generate.ensures.part cut))
+
+pub returns-in-None-generate_words-clause-whole : goal.returns-in-None-generate_words-clause-whole
+returns-in-None-generate_words-clause-whole g c no_other other =
     let words = map string_bytes c.args.words.now in
     let no_replay : ¬ (IsReplay words) = λ is. let both : false ≡ true = c.if-is_replay.ensures.1 is in cc in
-    cut_short _ _ _ _ _ _ _ _ _ c.end.ensures.end (no_command words no_replay no_folder.0 no_folder.1, c.line.ensures)
+    not_cut _ _ _ _ _ _ _ _ _ c.end.ensures.end (no_command words no_replay no_other.0 no_other.1 no_other.2 no_other.3, c.line.ensures) other
+
+pub returns-in-None-generate_words-clause-part : goal.returns-in-None-generate_words-clause-part
+returns-in-None-generate_words-clause-part g c no_other =
+    let words = map string_bytes c.args.words.now in
+    let no_replay : ¬ (IsReplay words) = λ is. let both : false ≡ true = c.if-is_replay.ensures.1 is in cc in
+    cut_short _ _ _ _ _ _ _ _ _ c.end.ensures.end (no_command words no_replay no_other.0 no_other.1 no_other.2 no_other.3, c.line.ensures)

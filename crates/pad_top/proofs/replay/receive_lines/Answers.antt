@@ -7,8 +7,8 @@ use Rattle.pad_top.proofs.replay.receive_lines.Goals as goal
 
 pub loop-line-init : goal.loop-line-init
 loop-line-init g c =
-    subst (λ rest. IsHere c.args.text.items rest c.in_ok-received.received.chain c.in_ok-received.received.unreadable) (sym c.new-rest.ensures)
-    (here_first c.args.text.items c.in_ok-received.received.chain c.in_ok-received.received.unreadable c.in_ok-received.ensures)
+    subst (λ rest. IsHere c.args.text.items rest c.in_ok-received.received) (sym c.new-rest.ensures)
+    (here_first c.args.text.items c.in_ok-received.received c.in_ok-received.ensures)
 
 pub loop-line-preserved : goal.loop-line-preserved
 loop-line-preserved g c =
@@ -18,8 +18,8 @@ loop-line-preserved g c =
     let shorter : length after < length rest = omega (arith, c.in-Some.ensures.shorter, ap length c.as_slice.ensures) in
     let end : drop (length rest - length after) rest ≡ after = ap (λ text. drop (length text - length after) text) (sym c.as_slice.ensures) ∙ sym c.in-Some.ensures.end in
     let left : c.go_on.new.self ≡ after = c.go_on.ensures ∙ end in
-    subst (λ text. IsHere c.args.text.items text c.receive_line.new.self.chain c.receive_line.new.self.unreadable) (sym left)
-    (here_more c.args.text.items rest c.in-Some.line.now after c.loop-line.received.chain c.receive_line.new.self.chain c.loop-line.received.unreadable c.receive_line.new.self.unreadable
+    subst (λ text. IsHere c.args.text.items text c.receive_line.new.self) (sym left)
+    (here_more c.args.text.items rest c.in-Some.line.now after c.loop-line.received c.receive_line.new.self
     c.loop-line.invariant split shorter c.in_ok-receive_line.ensures.received)
 
 pub returns-in_err-receive_line-clause-refused : goal.returns-in_err-receive_line-clause-refused
@@ -32,4 +32,4 @@ returns-in_err-receive_line-clause-refused g c =
 
 pub returns-clause-received : goal.returns-clause-received
 returns-clause-received g c =
-    here_end c.args.text.items c.loop-line.rest c.loop-line.received.chain c.loop-line.received.unreadable c.loop-line.invariant (ap lines_of (sym c.as_slice.ensures) ∙ c.in_default.ensures.lines)
+    here_end c.args.text.items c.loop-line.rest c.loop-line.received c.loop-line.invariant (ap lines_of (sym c.as_slice.ensures) ∙ c.in_default.ensures.lines)

@@ -9,7 +9,7 @@ pub returns-clause-report : goal.returns-clause-report
 returns-clause-report g c =
     let bytes = c.in_ok-bytes.bytes.items in
     let received = c.in_ok-received.received in
-    let whole : IsWholeAt bytes received.chain received.unreadable = c.in_ok-received.ensures.received in
+    let whole : IsWholeAt bytes received = c.in_ok-received.ensures.received in
     told (g.I.Source.left c.args.input.now) bytes (λ input. IsReplayed input (string_bytes c.in_ok-text.text)) c.in_ok-bytes.ensures.whole
     (replayed bytes (string_bytes c.in_ok-text.text) whole.0.messages whole.0.unreadable
     (omega (arith, c.in_ok-bytes.ensures.within))
