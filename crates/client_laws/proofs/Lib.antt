@@ -1,0 +1,8 @@
+pub mod Lists
+pub mod Holding
+pub mod Hearing
+pub mod Calling
+pub mod Living
+pub mod Waiting
+pub mod Agreeing
+pub mod Answered

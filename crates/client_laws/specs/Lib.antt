@@ -1,0 +1,4 @@
+pub mod Past
+pub mod Befalls
+pub mod Agreement
+pub mod Laws
