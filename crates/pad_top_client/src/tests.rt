@@ -6,7 +6,8 @@ use std::alloc::{AllocError, Global};
 use std::test::Fail;
 
 /// A script that joins a channel, and sends an edit.
-const SCRIPT: &str = "# says hi\njoin 00112233445566778899aabbccddeeff\nedit 0 0 \"hi\"\nsync\nsettle\nshow\n";
+const SCRIPT: &str =
+    "# says hi\njoin 00112233445566778899aabbccddeeff\nedit 0 0 \"hi\"\nsync\nsettle\nshow\n";
 
 /// What the server says to it.
 const HEARD: [&str; 5] = [
@@ -24,7 +25,8 @@ const SENT: [&str; 2] = [
 ];
 
 /// The report at its end.
-const REPORT: &str = "best 1ed74cb24bb725165b4f4028701cb378cd368c10cced8875b6a3f2d70569f0f3\nheight 1\nhash 8f434346648f6b96df89dda901c5176b10a6d83961dd3c1ac88b59b2dc327aa4\nunits 2\nknown 1\nwaiting 0\nunreadable 0\nroot 0000000000000000000000000000000000000000000000000000000000000000 0\nkept 2\novertaken 0\ntext \"hi\"\noutbox 0\nwork 0\nshown \"hi\"\n";
+const REPORT: &str =
+    "best 1ed74cb24bb725165b4f4028701cb378cd368c10cced8875b6a3f2d70569f0f3\nheight 1\nhash 8f434346648f6b96df89dda901c5176b10a6d83961dd3c1ac88b59b2dc327aa4\nunits 2\nknown 1\nwaiting 0\nunreadable 0\nroot 0000000000000000000000000000000000000000000000000000000000000000 0\nkept 2\novertaken 0\ntext \"hi\"\noutbox 0\nwork 0\nshown \"hi\"\n";
 
 /// Texts of which each is given in turn.
 fn wires(alloc: Global, texts: &[&str]) -> Result<Vec<Wire>, AllocError> {
@@ -104,9 +106,20 @@ fn a_call_of_the_link_that_fails_ends_a_client(rt: HostRuntime) -> Result<(), Fa
         (8, 2, Status::Ok, REPORT),
     ] {
         let mut link = MemLink::new(wires(alloc, &HEARD)?, [call].to_vec(alloc)?);
-        let found = ran(alloc, "client 127.0.0.1:9001", SCRIPT, Vec::new(alloc), &mut link, 1024)?;
+        let found = ran(
+            alloc,
+            "client 127.0.0.1:9001",
+            SCRIPT,
+            Vec::new(alloc),
+            &mut link,
+            1024,
+        )?;
         assert_eq!(rt; found.0, status, "at call {call}");
-        assert_eq!(rt; found.1.as_str(), first_sent(alloc, sent)?.as_str(), "at call {call}");
+        assert_eq!(rt;
+            found.1.as_str(),
+            first_sent(alloc, sent)?.as_str(),
+            "at call {call}"
+        );
         assert_eq!(rt; found.2.as_str(), written, "at call {call}");
     }
     Ok(())
@@ -134,12 +147,31 @@ fn a_client_ends_with_each_status(rt: HostRuntime) -> Result<(), Fail> {
     // a read that fails, a line outside the grammar, and other words: nothing is dialled
     for (line, script, failing, status, written) in [
         (words, SCRIPT, 3, Status::ReadFault, "read fault\n"),
-        (words, "show\n\njoin C\n", 100, Status::BadScript(3), "bad script line 3\n"),
+        (
+            words,
+            "show\n\njoin C\n",
+            100,
+            Status::BadScript(3),
+            "bad script line 3\n",
+        ),
         ("client ", SCRIPT, 100, Status::Usage, "usage\n"),
-        ("client 127.0.0.1:9001 hello", SCRIPT, 100, Status::Usage, "usage\n"),
+        (
+            "client 127.0.0.1:9001 hello",
+            SCRIPT,
+            100,
+            Status::Usage,
+            "usage\n",
+        ),
     ] {
         let mut link = MemLink::new(wires(alloc, &HEARD)?, [0].to_vec(alloc)?);
-        let found = ran(alloc, line, script, [failing].to_vec(alloc)?, &mut link, 1024)?;
+        let found = ran(
+            alloc,
+            line,
+            script,
+            [failing].to_vec(alloc)?,
+            &mut link,
+            1024,
+        )?;
         assert_eq!(rt; found.0, status);
         assert_eq!(rt; found.1.as_str(), "");
         assert_eq!(rt; found.2.as_str(), written);
