@@ -16,6 +16,3 @@ mod words;
 
 pub use hearing::Hearing;
 pub use scripted::ScriptedClient;
-
-#[cfg(test)]
-mod tests;
