@@ -91,6 +91,14 @@ def refusals(server):
     return [(0, wanted)], [told]
 
 
+def longest(server):
+    """The longest text: one letter more is refused, the text is sent."""
+    channel = channel_of(10)
+    script = 'join %s\nedit 0 0 "%s"\nedit 0 0 "x"\nsync\nsettle\nshow\n' % (channel, "a" * 262144)
+    told = client(server, script)
+    return [(0, "refused 3 TooLong\n" + report(contents(server, channel)))], [told]
+
+
 def ends(server):
     """Each end that has a status of its own."""
     gone = channel_of(9)
@@ -116,7 +124,7 @@ def ends(server):
     return [row[1] for row in rows], [row[0] for row in rows]
 
 
-ROWS = [hello, at_once, refusals, ends]
+ROWS = [hello, at_once, refusals, longest, ends]
 
 
 def main():
