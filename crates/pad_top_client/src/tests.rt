@@ -125,30 +125,40 @@ fn a_call_of_the_link_that_fails_ends_a_client(rt: HostRuntime) -> Result<(), Fa
     Ok(())
 }
 
-#[test]
-fn a_client_ends_with_each_status(rt: HostRuntime) -> Result<(), Fail> {
-    let alloc = rt.alloc();
-    let words = "client 127.0.0.1:9001";
+/// The words of a client.
+const WORDS: &str = "client 127.0.0.1:9001";
 
-    // the link ends before the acknowledgement
+#[test]
+fn a_link_that_ends_early_is_told(rt: HostRuntime) -> Result<(), Fail> {
+    let alloc = rt.alloc();
+    // the acknowledgement does not come
     let mut link = MemLink::new(wires(alloc, &HEARD[..4])?, Vec::new(alloc));
-    let found = ran(alloc, words, SCRIPT, Vec::new(alloc), &mut link, 1024)?;
+    let found = ran(alloc, WORDS, SCRIPT, Vec::new(alloc), &mut link, 1024)?;
     assert_eq!(rt; found.0, Status::EndedEarly);
     assert_eq!(rt; found.1.as_str(), first_sent(alloc, 2)?.as_str());
     assert_eq!(rt; found.2.as_str(), "ended early\n");
+    Ok(())
+}
 
-    // a sink without room for the report
+#[test]
+fn a_sink_without_room_is_told(rt: HostRuntime) -> Result<(), Fail> {
+    let alloc = rt.alloc();
     let mut link = MemLink::new(wires(alloc, &HEARD)?, Vec::new(alloc));
-    let found = ran(alloc, words, SCRIPT, Vec::new(alloc), &mut link, 80)?;
+    let found = ran(alloc, WORDS, SCRIPT, Vec::new(alloc), &mut link, 80)?;
     assert_eq!(rt; found.0, Status::WriteFault);
     assert_eq!(rt; found.1.as_str(), first_sent(alloc, 2)?.as_str());
     assert!(rt; REPORT.starts_with(found.2.as_str()));
+    Ok(())
+}
 
-    // a read that fails, a line outside the grammar, and other words: nothing is dialled
+#[test]
+fn what_is_no_script_dials_nothing(rt: HostRuntime) -> Result<(), Fail> {
+    let alloc = rt.alloc();
+    // a read that fails, a line outside the grammar, and other words
     for (line, script, failing, status, written) in [
-        (words, SCRIPT, 3, Status::ReadFault, "read fault\n"),
+        (WORDS, SCRIPT, 3, Status::ReadFault, "read fault\n"),
         (
-            words,
+            WORDS,
             "show\n\njoin C\n",
             100,
             Status::BadScript(3),
@@ -163,24 +173,24 @@ fn a_client_ends_with_each_status(rt: HostRuntime) -> Result<(), Fail> {
             "usage\n",
         ),
     ] {
-        let mut link = MemLink::new(wires(alloc, &HEARD)?, [0].to_vec(alloc)?);
-        let found = ran(
-            alloc,
-            line,
-            script,
-            [failing].to_vec(alloc)?,
-            &mut link,
-            1024,
-        )?;
+        // its first call would fail
+        let mut link = MemLink::new(Vec::new(alloc), [0].to_vec(alloc)?);
+        let reads = [failing].to_vec(alloc)?;
+        let found = ran(alloc, line, script, reads, &mut link, 1024)?;
         assert_eq!(rt; found.0, status);
         assert_eq!(rt; found.1.as_str(), "");
         assert_eq!(rt; found.2.as_str(), written);
     }
+    Ok(())
+}
 
-    // a line that is refused, and an empty script
+#[test]
+fn a_refused_line_ends_no_script(rt: HostRuntime) -> Result<(), Fail> {
+    let alloc = rt.alloc();
+    // and an empty script says nothing
     for (script, written) in [("edit 1 0 \"x\"\n", "refused 1 Range\n"), ("", "")] {
         let mut link = MemLink::new(Vec::new(alloc), Vec::new(alloc));
-        let found = ran(alloc, words, script, Vec::new(alloc), &mut link, 1024)?;
+        let found = ran(alloc, WORDS, script, Vec::new(alloc), &mut link, 1024)?;
         assert_eq!(rt; found.0, Status::Ok);
         assert_eq!(rt; found.2.as_str(), written);
     }

@@ -46,7 +46,33 @@ fn sending(alloc: Global) -> Result<MemPort, AllocError> {
     Ok(MemPort::new(events, Vec::new(alloc)))
 }
 
-/// How serving this port ends at the clock 7, what was sent and hung up, a line each, and what is written.
+/// How serving this port ends at the clock 7.
+fn run_at(
+    alloc: Global,
+    words: &[String],
+    sink: &mut MemSink,
+    port: &mut MemPort,
+    volume: &mut MemVolume,
+) -> Result<Status, AllocError>
+    requires { (file : List ℕ) → AtRest (disk_of volume.old) file }
+{
+    let mut source = MemSource::new(Vec::new(alloc), 7, Vec::new(alloc));
+    let mut link = MemLink::new(Vec::new(alloc), Vec::new(alloc));
+    let mut clock = MemClock::new([7].to_vec(alloc)?);
+    Ok(run(
+        alloc,
+        words,
+        &mut source,
+        sink,
+        volume,
+        port,
+        &mut link,
+        &mut clock,
+        [0; 32],
+    ))
+}
+
+/// How serving this port ends, what was sent and hung up, a line each, and what is written.
 fn served(
     alloc: Global,
     port: &mut MemPort,
@@ -55,21 +81,8 @@ fn served(
     requires { (file : List ℕ) → AtRest (disk_of volume.old) file }
 {
     let words = words_of(alloc, "serve 127.0.0.1:9001 pads 100")?;
-    let mut source = MemSource::new(Vec::new(alloc), 7, Vec::new(alloc));
     let mut sink = MemSink::new(vec![in alloc; b' '; 256]?, 5, Vec::new(alloc));
-    let mut link = MemLink::new(Vec::new(alloc), Vec::new(alloc));
-    let mut clock = MemClock::new([7].to_vec(alloc)?);
-    let status = run(
-        alloc,
-        words.as_slice(),
-        &mut source,
-        &mut sink,
-        volume,
-        port,
-        &mut link,
-        &mut clock,
-        [0; 32],
-    );
+    let status = run_at(alloc, words.as_slice(), &mut sink, port, volume)?;
     let mut told = String::new(alloc);
     for sent in port.sent() {
         match sent {
@@ -148,13 +161,28 @@ fn log_after(alloc: Global, volume: &MemVolume) -> Result<String, AllocError> {
     Ok(told)
 }
 
+/// A store to these files that stops in a call of the volume: whether it was acknowledged, the log after that, and whether it stopped.
+fn crashed(
+    alloc: Global,
+    files: &MemVolume,
+    call: u64,
+    pick: Pick,
+) -> Result<(bool, String, bool), AllocError> {
+    let mut volume = files.image(alloc)?;
+    volume.stop_at(call, pick);
+    let mut port = sending(alloc)?;
+    let found = served(alloc, &mut port, &mut volume)?;
+    let log = log_after(alloc, &volume)?;
+    Ok((found.1.contains("[2,\"ACK\"]"), log, volume.has_stopped()))
+}
+
 #[test]
 fn what_is_acknowledged_outlives_a_crash(rt: HostRuntime) -> Result<(), Fail> {
     let alloc = rt.alloc();
     let older = format!(in alloc; "{CHANNEL}.padlog")?;
-    let one = "0 0 0000000000000001e56a5d4028bd8653 \"m\"\n";
-    let before = format!(in alloc; "{one}entries 1\n")?;
-    let after = format!(in alloc; "{one}1 7 0000000000000001e56a5d4028bd8653 \"n\"\nentries 2\n")?;
+    let before = "0 0 0000000000000001e56a5d4028bd8653 \"m\"\nentries 1\n";
+    let after =
+        "0 0 0000000000000001e56a5d4028bd8653 \"m\"\n1 7 0000000000000001e56a5d4028bd8653 \"n\"\nentries 2\n";
 
     // one entry in the older form, to which another is added; a crash comes in each call of the volume, and leaves as much as it may in four ways
     let mut files = MemVolume::new(alloc, Vec::new(alloc));
@@ -162,18 +190,12 @@ fn what_is_acknowledged_outlives_a_crash(rt: HostRuntime) -> Result<(), Fail> {
     assert!(rt; files.write_at(older.as_str(), 0, entry.as_slice()).is_ok());
     for pick in [Pick::Old, Pick::New, Pick::Torn(0), Pick::Torn(1)] {
         for call in 0..60 {
-            let mut volume = files.image(alloc)?;
-            volume.stop_at(call, pick);
-            let mut port = sending(alloc)?;
-            let found = served(alloc, &mut port, &mut volume)?;
-            let log = log_after(alloc, &volume)?;
-            if found.1.contains("[2,\"ACK\"]") {
-                assert_eq!(rt; log.as_str(), after.as_str(), "at {pick:?} in call {call}");
-            } else if log.as_str() != before.as_str() {
-                assert_eq!(rt; log.as_str(), after.as_str(), "at {pick:?} in call {call}");
+            let (acknowledged, log, stopped) = crashed(alloc, &files, call, pick)?;
+            if acknowledged || log.as_str() != before {
+                assert_eq!(rt; log.as_str(), after, "at {pick:?} in call {call}");
             }
-            if !volume.has_stopped() {
-                assert!(rt; found.1.contains("[2,\"ACK\"]"));
+            if !stopped {
+                assert!(rt; acknowledged);
                 break;
             }
         }
@@ -191,39 +213,55 @@ fn stored(alloc: Global, gate: u8) -> Result<Vec<u8>, AllocError> {
     Ok(bytes)
 }
 
+/// How many calls of the volume a store makes, with the one of `root`.
+fn calls_of_a_store(alloc: Global) -> Result<u64, AllocError> {
+    let mut volume = MemVolume::new(alloc, Vec::new(alloc));
+    let mut port = sending(alloc)?;
+    served(alloc, &mut port, &mut volume)?;
+    Ok(volume.calls())
+}
+
+/// How a store ends whose call of the volume of this number fails, and what is told.
+fn failed_at(alloc: Global, call: u64) -> Result<(Status, String), AllocError> {
+    let mut volume = MemVolume::new(alloc, [call].to_vec(alloc)?);
+    let mut port = sending(alloc)?;
+    served(alloc, &mut port, &mut volume)
+}
+
+/// What is told of a store that failed.
+fn told_of_a_failed_store(alloc: Global) -> Result<String, AllocError> {
+    let mut told = String::new(alloc);
+    for text in JOINED {
+        writeln!(told, "7 {text}")?;
+    }
+    told.push_str("7 [2,\"ERROR\",\"ESTORE\",\"00112233445566778899aabbccddeeff\"]\nturns 4\n")?;
+    Ok(told)
+}
+
 #[test]
 fn a_failed_store_is_told_to_its_sender(rt: HostRuntime) -> Result<(), Fail> {
     let alloc = rt.alloc();
-    let file = format!(in alloc; "{CHANNEL}.padlog2")?;
-    let mut volume = MemVolume::new(alloc, Vec::new(alloc));
-    let mut port = sending(alloc)?;
-    let found = served(alloc, &mut port, &mut volume)?;
-    assert!(rt; found.1.contains("[2,\"ACK\"]"));
-    let calls = volume.calls();
-
+    let want = told_of_a_failed_store(alloc)?;
     // each call of the volume behind `root` fails in turn; the last one is the second sync of the append
-    for call in 1..calls {
-        let mut volume = MemVolume::new(alloc, [call].to_vec(alloc)?);
-        let mut port = sending(alloc)?;
-        let found = served(alloc, &mut port, &mut volume)?;
-        let mut want = String::new(alloc);
-        for text in JOINED {
-            writeln!(want, "7 {text}")?;
-        }
-        want.push_str(
-            "7 [2,\"ERROR\",\"ESTORE\",\"00112233445566778899aabbccddeeff\"]\nturns 4\n",
-        )?;
+    for call in 1..calls_of_a_store(alloc)? {
+        let found = failed_at(alloc, call)?;
         assert_eq!(rt; found.0, Status::Ok, "at call {call}");
         assert_eq!(rt; found.1.as_str(), want.as_str(), "at call {call}");
-        if volume.calls() == calls {
-            for gate in [0, 1] {
-                let bytes = stored(alloc, gate)?;
-                assert!(rt;
-                    volume.may_leave(alloc, file.as_str(), bytes.as_slice())?,
-                    "at call {call}"
-                );
-            }
-        }
+    }
+    Ok(())
+}
+
+#[test]
+fn a_crash_after_a_failed_sync_may_leave_either(rt: HostRuntime) -> Result<(), Fail> {
+    let alloc = rt.alloc();
+    let file = format!(in alloc; "{CHANNEL}.padlog2")?;
+    let last = calls_of_a_store(alloc)?.saturating_sub(1);
+    let mut volume = MemVolume::new(alloc, [last].to_vec(alloc)?);
+    let mut port = sending(alloc)?;
+    served(alloc, &mut port, &mut volume)?;
+    for gate in [0, 1] {
+        let bytes = stored(alloc, gate)?;
+        assert!(rt; volume.may_leave(alloc, file.as_str(), bytes.as_slice())?);
     }
     Ok(())
 }
