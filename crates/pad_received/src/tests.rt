@@ -1,8 +1,11 @@
 //! Some lines are received, in ample memory.
+ghost use Rattle.std.specs.Prelude.{◌≡◌, ◌<◌};
+
 use super::Received;
 use pad_patch::Steps;
+use std::alloc::{AllocError, Global};
 use std::marker::Brand;
-use std::sync::ledger::Blank;
+use std::sync::ledger::{Blank, Ledger};
 use std::test::Fail;
 
 /// `abc` on the base, then a line that is no message.
@@ -22,17 +25,28 @@ root 0000000000000000000000000000000000000000000000000000000000000000 0\n\
 kept 2\n\
 overtaken 0\n";
 
-#[test]
-fn what_was_received_is_reported(rt: HostRuntime) -> Result<(), Fail> {
-    let alloc = rt.alloc();
-    let mut steps = Steps::<Brand>::new(Blank::new(1));
+/// The summary and the report of what the lines read as. The steps are counted in the ledger.
+fn told<L: Ledger>(alloc: Global, blank: Blank) -> Result<(String, String), AllocError>
+    requires name { blank.name ≡ L.name }
+    requires parts { blank.parts ≡ L.parts }
+    requires some { 0 < blank.parts }
+{
+    let mut steps = Steps::<L>::new(blank);
     let mut received = Received::new(alloc)?;
     let first = received.receive_line(alloc, LINES[0].as_bytes(), &mut steps);
     let second = received.receive_line(alloc, LINES[1].as_bytes(), &mut steps);
-    assert!(rt; first.is_ok() && second.is_ok());
+    if first.is_err() || second.is_err() {
+        return Err(AllocError);
+    }
     let summary = received.summary(alloc)?;
+    Ok((summary, received.report(alloc)?))
+}
+
+#[test]
+fn what_was_received_is_reported(rt: HostRuntime) -> Result<(), Fail> {
+    let alloc = rt.alloc();
+    let (summary, report) = told::<Brand>(alloc, Blank::new(1))?;
     assert_eq!(rt; summary.as_str(), SUMMARY);
-    let report = received.report(alloc)?;
     let whole = format!(in alloc; "{SUMMARY}text \"abc\"\n")?;
     assert_eq!(rt; report.as_str(), whole.as_str());
     Ok(())
