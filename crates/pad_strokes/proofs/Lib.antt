@@ -1,0 +1,5 @@
+pub mod Edits
+pub mod Texts
+pub mod Runs
+pub mod Steps
+pub mod Allowed
