@@ -1,7 +1,9 @@
--- What a slot's logs are, by what they are more narrowly: what the proofs of the layers above cite.
+-- What a slot's logs and those of a checked channel are, by what they are more narrowly: what the proofs of the layers above cite.
 use Rattle.std.proofs.Common.{ℕ}
+use Rattle.keeper_channel.specs.Checked.{IsCheckedOf}
 use Rattle.keeper_channel.specs.Logs.{IsLogsOf}
 use Rattle.keeper_channel.specs.Slot.{IsSlotOf}
+use Rattle.keeper_channel.specs.declared.checked.CheckedChannel.{CheckedChannel}
 use Rattle.keeper_channel.specs.declared.logs.Logs.{Logs}
 use Rattle.keeper_channel.specs.declared.logs.Logs.TheVariants.{Unmoved, Moved}
 use Rattle.keeper_channel.specs.declared.slot.Slot.{Slot}
@@ -18,4 +20,11 @@ slot_weaker is_one also_one is_two also_two count_one count_two slot by_one by_t
   counted = is.counted;
   indexed = is.indexed;
   few = is.few;
+}
+
+pub checked_weaker : {O G : Type 0} (is_one also_one : O → Type 0) (is_two also_two : G → Type 0) (count_one : O → ℕ) (count_two : G → ℕ) (channel : CheckedChannel O G)
+    → ((log : O) → is_one log → also_one log) → ((log : G) → is_two log → also_two log) → IsCheckedOf is_one is_two count_one count_two channel → IsCheckedOf also_one also_two count_one count_two channel
+checked_weaker is_one also_one is_two also_two count_one count_two channel by_one by_two is = record {
+  made = logs_weaker is_one also_one is_two also_two channel.logs by_one by_two is.made;
+  counted = is.counted;
 }

@@ -1,4 +1,5 @@
 pub mod Chan
+pub mod Checked
 pub mod Disks
 pub mod Entries
 pub mod Inside

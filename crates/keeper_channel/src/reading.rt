@@ -4,9 +4,11 @@ ghost use Rattle.log_format.specs.declared.damage.Damage.{Damage};
 ghost use Rattle.log_format.specs.declared.damage.Damage.TheVariants.{Entry};
 ghost use Rattle.keeper_entry.specs.Entry.{IsEntry};
 ghost use Rattle.keeper_channel.specs.Chan.{at_moment_zero};
+ghost use Rattle.keeper_channel.specs.Checked.{IsChecked, IsCheckedOf};
 ghost use Rattle.keeper_channel.specs.Logs.{IsLive, IsLogsOf, HasCount};
 ghost use Rattle.keeper_channel.specs.Slot.{IsSlot, IsSlotOf};
 
+use crate::checked::CheckedChannel;
 use crate::logs::Logs;
 use crate::refused::KeeperRefused;
 use crate::slot::Slot;
@@ -42,6 +44,36 @@ pub fn read_entry<O: Ledger, G: Ledger, V: Volume>(
     ensures clock { V.clock volume.new ≤ V.clock volume.old + 2 }
 {
     match read_payload(alloc, volume, &slot.logs, index) {
+        Ok(payload) => check_entry(index, payload),
+        Err(PayloadRefused::Store) => Err(KeeperRefused::Store),
+        Err(PayloadRefused::NoMemory(error)) => Err(KeeperRefused::NoMemory(error)),
+    }
+}
+
+/// Reads the payload of an entry of a channel that was checked, as `read_entry` does.
+pub fn read_checked<O: Ledger, G: Ledger, V: Volume>(
+    alloc: Global,
+    volume: &mut V,
+    channel: &CheckedChannel<O, G>,
+    index: u64,
+) -> Result<Payload, KeeperRefused>
+    requires live { IsCheckedOf (λ log. IsTrue (O.live log)) (λ log. IsTrue (G.live log)) O.count G.count channel.now }
+    requires index { index < channel.now.count }
+    requires channel { V.tells → (doubt : (List ℕ → List ℕ) → List (List ℕ)) × (held : List (List ℕ)) × (suspense : List (List ℕ)) × IsChecked O.holds G.holds doubt channel.now held suspense (V.disk volume.old) }
+    ensures payload { V.tells → (doubt : (List ℕ → List ℕ) → List (List ℕ)) (held suspense : List (List ℕ)) → IsChecked O.holds G.holds doubt channel.now held suspense (V.disk volume.old)
+        → IfOk result (λ payload. slice_get held index ≡ Some payload) }
+    ensures entry { IfOk result IsEntry }
+    ensures damaged { (damage : Damage) → IsErrOf result (KeeperRefused.Damaged damage) → damage ≡ Entry index }
+    ensures sound { V.tells → (damage : Damage) → IsErrOf result (KeeperRefused.Damaged damage) → ⊥ }
+    ensures full { IsErrOf result KeeperRefused.Full → ⊥ }
+    ensures disk { V.tells → V.disk volume.new ≡ V.disk volume.old }
+    ensures follows { V.follows volume.old volume.new }
+    ensures store { IsErrOf result KeeperRefused.Store → Rose (V.faults volume.old) (V.faults volume.new) }
+    ensures kept { IsErrOf result KeeperRefused.Store ⊎ (V.faults volume.new ≡ V.faults volume.old) }
+    ensures later { V.faults volume.old ≤ V.faults volume.new }
+    ensures clock { V.clock volume.new ≤ V.clock volume.old + 2 }
+{
+    match read_payload(alloc, volume, &channel.logs, index) {
         Ok(payload) => check_entry(index, payload),
         Err(PayloadRefused::Store) => Err(KeeperRefused::Store),
         Err(PayloadRefused::NoMemory(error)) => Err(KeeperRefused::NoMemory(error)),

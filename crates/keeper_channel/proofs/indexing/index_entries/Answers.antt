@@ -1,18 +1,15 @@
-use Rattle.std.proofs.Common.{◌≡◌, ◌∙◌, inl, inr, ℕ, ◌+◌, arith, List, [], ◌∷◌, ◌++◌, take, Some, Err, IsErrOf, refl, sym, ap, subst}
+use Rattle.std.proofs.Common.{◌≡◌, ◌∙◌, inl, inr, ℕ, ◌+◌, arith, List, [], ◌∷◌, ◌++◌, take, Some, refl, sym, ap, subst}
 use Rattle.std.specs.Prelude.{slice_get}
 use Rattle.std.proofs.lemmas.List.{take_more, take_all}
 use Rattle.std.proofs.lemmas.List.Elements.{All-push, All-nil}
 use Rattle.std.proofs.lemmas.Option.{slice_get_within, get_or_from_slice_get}
 use Rattle.std.proofs.lemmas.Result.{err_from_is_err_and}
 use Rattle.disk_volume.specs.Disk.{Disk}
-use Rattle.log_format.specs.declared.damage.Damage.{Damage}
-use Rattle.log_format.specs.declared.damage.Damage.TheVariants.{Entry}
-use Rattle.gated_log.specs.declared.refused.LoadRefused.{LoadRefused}
-use Rattle.gated_log.specs.declared.refused.LoadRefused.TheVariants.{Store, Damaged, NoMemory}
 use Rattle.keeper_entry.specs.Entry.{IsEntry}
 use Rattle.keeper_entry.specs.Index.{IsIndex}
-use Rattle.keeper_channel.specs.Entries.{AreEntries, IsFirstOther}
-use Rattle.keeper_channel.specs.Logs.{IsLive, NamesDamage, HasCount}
+use Rattle.keeper_channel.specs.Entries.{AreEntries}
+use Rattle.keeper_channel.specs.Logs.{IsLive, HasCount}
+use Rattle.keeper_channel.proofs.Damages.{names_other}
 use Rattle.keeper_channel.proofs.Slots.{counted, few_in, few_entries}
 use Rattle.keeper_channel.proofs.indexing.index_entries.Goals as goal
 
@@ -21,15 +18,6 @@ one_more : (held : List (List ℕ)) (place : ℕ) (payload : List ℕ) → slice
 one_more held place payload got =
     take_more held place payload (slice_get_within held place payload got)
     ∙ ap (λ (p : List ℕ). take place held ++ p ∷ []) (get_or_from_slice_get held place payload payload got)
-
-names_other : {T : Type 0} (refused : LoadRefused) (held : List (List ℕ)) (place : ℕ) → AreEntries (take place held)
-    → ((damage : Damage) → IsErrOf {T = T} (Err refused) (Damaged damage) → (payload : List ℕ) × (slice_get held place ≡ Some payload) × (damage ≡ Entry place) × (IsEntry payload → ⊥))
-    → NamesDamage (λ damage. (index : ℕ) × (damage ≡ Entry index) × IsFirstOther held index) refused
-names_other Store held place before found = tt
-names_other (NoMemory error) held place before found = tt
-names_other (Damaged damage) held place before found =
-    let other = found damage refl in
-    (place, other.2, record { before = before; payload = other.0; got = other.1; other = other.3 })
 
 pub loop-place-init : goal.loop-place-init
 loop-place-init g c = record {

@@ -4,21 +4,14 @@ use Rattle.disk_volume.specs.Disk.{Disk, reads}
 use Rattle.log_format.specs.declared.damage.Damage.{Damage}
 use Rattle.log_format.specs.declared.damage.Damage.TheVariants.{Entry}
 use Rattle.log_format.specs.declared.form.Form.TheVariants.{One, Two}
-use Rattle.gated_log.specs.declared.refused.LoadRefused.{LoadRefused}
-use Rattle.gated_log.specs.declared.refused.LoadRefused.TheVariants.{Store, Damaged, NoMemory}
-use Rattle.keeper_channel.specs.Entries.{IsFirstOther, AreEntries}
-use Rattle.keeper_channel.specs.Logs.{NamesDamage, IsLive}
+use Rattle.keeper_channel.specs.Entries.{IsFirstOther}
+use Rattle.keeper_channel.specs.Logs.{IsLive}
 use Rattle.keeper_channel.specs.Slot.{HasDamage}
-use Rattle.keeper_channel.proofs.Chans.{list_once, found_list, entry_at}
+use Rattle.keeper_channel.proofs.Chans.{list_once, found_list}
 use Rattle.keeper_channel.proofs.CallerLemmas.{logs_weaker}
+use Rattle.keeper_channel.proofs.Damages.{names_weaker, all_entries}
 use Rattle.keeper_channel.proofs.Slots.{few_made}
 use Rattle.keeper_channel.proofs.opening.load_slot.Goals as goal
-
--- a refusal that names such a damage names such another
-names_weaker : (P Q : Damage → Type 0) (refused : LoadRefused) → ((damage : Damage) → P damage → Q damage) → NamesDamage P refused → NamesDamage Q refused
-names_weaker P Q Store by names = tt
-names_weaker P Q (Damaged damage) by names = by damage names
-names_weaker P Q (NoMemory error) by names = tt
 
 pub index_entries-requires-clause-holds : goal.index_entries-requires-clause-holds
 index_entries-requires-clause-holds g c = λ told. let found = c.in_ok-logs.ensures.found told in (g.G.Ledger.doubt Two c.args.two.now, found.0, found.1, found.3)
@@ -52,10 +45,6 @@ returns-clause-found g c = λ told.
         entries = index.1;
       },
     )
-
--- in a list of entries there is none that holds no entry
-all_entries : (list : List (List ℕ)) (index : ℕ) → AreEntries list → IsFirstOther list index → ⊥
-all_entries list index all first = first.other (entry_at list index first.payload all first.got)
 
 pub returns-clause-undamaged : goal.returns-clause-undamaged
 returns-clause-undamaged g c = λ told damage is.
