@@ -2,9 +2,9 @@
 use Rattle.std.specs.Prelude.{◌≡◌, ℕ, List}
 use Rattle.std.specs.Io.{StartsWith}
 use Rattle.disk_volume.specs.Disk.{Disk}
+use Rattle.keeper_channel.specs.Checked.{IsChecked}
 use Rattle.keeper_channel.specs.Entries.{AreEntries}
-use Rattle.keeper_channel.specs.Slot.{IsSlot}
-use Rattle.keeper_channel.specs.declared.slot.Slot.{Slot}
+use Rattle.keeper_channel.specs.declared.checked.CheckedChannel.{CheckedChannel}
 use Rattle.pad_log.specs.Lines.{log_text}
 
 -- the text tells a list of entries, of which this holds where it is told
@@ -15,7 +15,7 @@ IsLogText told is_it text = (list : List (List ℕ)) × AreEntries list × (told
 abbrev pub IsLogPart : (told : Type 0) → (is_it : List ℕ → Type 0) → (part : List ℕ) → Type 0
 IsLogPart told is_it part = ((list : List (List ℕ)) × AreEntries list × StartsWith (log_text list) part) × (told → is_it part)
 
--- this holds of each list that a slot has on a disk
-abbrev pub OfEachHeld : {O G : Type 0} (holds_one : O → List (List ℕ) → Disk → Type 0) (holds_two : G → List (List ℕ) → Disk → Type 0) → Slot O G → Disk
+-- this holds of each list that a checked channel has on a disk
+abbrev pub OfEachHeld : {O G : Type 0} (holds_one : O → List (List ℕ) → Disk → Type 0) (holds_two : G → List (List ℕ) → Disk → Type 0) → CheckedChannel O G → Disk
     → (List (List ℕ) → Type 0) → Type 0
-OfEachHeld holds_one holds_two slot disk is_it = (doubt : (List ℕ → List ℕ) → List (List ℕ)) (held suspense : List (List ℕ)) → IsSlot holds_one holds_two doubt slot held suspense disk → is_it held
+OfEachHeld holds_one holds_two channel disk is_it = (doubt : (List ℕ → List ℕ) → List (List ℕ)) (held suspense : List (List ℕ)) → IsChecked holds_one holds_two doubt channel held suspense disk → is_it held

@@ -8,7 +8,7 @@ ghost use Rattle.disk_volume.specs.Moments.{OnlySyncs};
 ghost use Rattle.log_format.specs.declared.damage.Damage.{Damage};
 ghost use Rattle.log_format.specs.declared.damage.Damage.TheVariants.{Entry};
 ghost use Rattle.keeper_entry.specs.Entry.{IsEntry};
-ghost use Rattle.keeper_channel.specs.Slot.{IsSlot, IsSlotOf};
+ghost use Rattle.keeper_channel.specs.Checked.{IsChecked, IsCheckedOf};
 ghost use Rattle.keeper_table.specs.Files.{file_one, file_two, OfChannel};
 ghost use Rattle.pad_log.specs.Channel.{IsDamageOf, IsListOf};
 ghost use Rattle.pad_log.specs.Lines.{line_of_entry, line_of_count, log_text};
@@ -18,7 +18,7 @@ use crate::lines::{count_line, entry_line};
 use crate::refused::LogRefused;
 use disk_volume::Volume;
 use gated_log::{Ledger, LoadRefused};
-use keeper_channel::{KeeperRefused, Slot, load_slot, read_entry};
+use keeper_channel::{CheckedChannel, KeeperRefused, load_checked, read_checked};
 use keeper_table::files_of;
 use log_format::Damage;
 use netflux_codec::Channel;
@@ -89,8 +89,8 @@ fn write_files<O: Ledger, G: Ledger, V: Volume, S: Sink>(
     ensures written { IsErrOf result LogRefused.Write ⊎ (S.faults output.new ≡ S.faults output.old) }
     ensures writes_later { S.faults output.old ≤ S.faults output.new }
 {
-    match load_slot::<O, G, V>(alloc, volume, one, two) {
-        Ok(slot) => write_log(alloc, volume, &slot, output),
+    match load_checked::<O, G, V>(alloc, volume, one, two) {
+        Ok(checked) => write_log(alloc, volume, &checked, output),
         Err(refused) => Err(refused_for(refused)),
     }
 }
@@ -109,18 +109,18 @@ fn refused_for(refused: LoadRefused) -> LogRefused
     }
 }
 
-/// Writes the log of a channel that is loaded. At a refusal a part from the front is written. `Damaged` comes only over a volume that
+/// Writes the log of a channel that was checked. At a refusal a part from the front is written. `Damaged` comes only over a volume that
 /// does not tell what its files hold, and names an entry.
 pub fn write_log<O: Ledger, G: Ledger, V: Volume, S: Sink>(
     alloc: Global,
     volume: &mut V,
-    slot: &Slot<O, G>,
+    channel: &CheckedChannel<O, G>,
     output: &mut S,
 ) -> Result<(), LogRefused>
-    requires live { IsSlotOf (λ log. IsTrue (O.live log)) (λ log. IsTrue (G.live log)) O.count G.count slot.now }
-    requires slot { V.tells → (doubt : (List ℕ → List ℕ) → List (List ℕ)) × (held : List (List ℕ)) × (suspense : List (List ℕ)) × IsSlot O.holds G.holds doubt slot.now held suspense (V.disk volume.old) }
-    ensures whole { OnOk result (AppendsSome (IsLogText V.tells (λ list. OfEachHeld O.holds G.holds slot.now (V.disk volume.old) (λ held. list ≡ held))) (S.written output.old) (S.written output.new)) }
-    ensures part { OnErr result (AppendsSome (IsLogPart V.tells (λ part. OfEachHeld O.holds G.holds slot.now (V.disk volume.old) (λ held. StartsWith (log_text held) part)))
+    requires live { IsCheckedOf (λ log. IsTrue (O.live log)) (λ log. IsTrue (G.live log)) O.count G.count channel.now }
+    requires channel { V.tells → (doubt : (List ℕ → List ℕ) → List (List ℕ)) × (held : List (List ℕ)) × (suspense : List (List ℕ)) × IsChecked O.holds G.holds doubt channel.now held suspense (V.disk volume.old) }
+    ensures whole { OnOk result (AppendsSome (IsLogText V.tells (λ list. OfEachHeld O.holds G.holds channel.now (V.disk volume.old) (λ held. list ≡ held))) (S.written output.old) (S.written output.new)) }
+    ensures part { OnErr result (AppendsSome (IsLogPart V.tells (λ part. OfEachHeld O.holds G.holds channel.now (V.disk volume.old) (λ held. StartsWith (log_text held) part)))
         (S.written output.old) (S.written output.new)) }
     ensures damaged { (damage : Damage) → IsErrOf result (LogRefused.Damaged damage) → (index : ℕ) × (damage ≡ Entry index) }
     ensures sound { V.tells → (damage : Damage) → IsErrOf result (LogRefused.Damaged damage) → ⊥ }
@@ -133,10 +133,10 @@ pub fn write_log<O: Ledger, G: Ledger, V: Volume, S: Sink>(
     ensures written { IsErrOf result LogRefused.Write ⊎ (S.faults output.new ≡ S.faults output.old) }
     ensures writes_later { S.faults output.old ≤ S.faults output.new }
 {
-    let total = slot.index.count();
+    let total = channel.count;
     // One entry at a time, so that a long log takes no more memory than its longest entry.
     for index in 0..total {
-        write_entry(alloc, volume, slot, index, output)?;
+        write_entry(alloc, volume, channel, index, output)?;
     }
     write_count(alloc, total, output)
 }
@@ -145,17 +145,17 @@ pub fn write_log<O: Ledger, G: Ledger, V: Volume, S: Sink>(
 fn write_entry<O: Ledger, G: Ledger, V: Volume, S: Sink>(
     alloc: Global,
     volume: &mut V,
-    slot: &Slot<O, G>,
+    channel: &CheckedChannel<O, G>,
     index: u64,
     output: &mut S,
 ) -> Result<(), LogRefused>
-    requires live { IsSlotOf (λ log. IsTrue (O.live log)) (λ log. IsTrue (G.live log)) O.count G.count slot.now }
-    requires index { index < slot.now.index.count }
-    requires slot { V.tells → (doubt : (List ℕ → List ℕ) → List (List ℕ)) × (held : List (List ℕ)) × (suspense : List (List ℕ)) × IsSlot O.holds G.holds doubt slot.now held suspense (V.disk volume.old) }
-    ensures whole { OnOk result ((payload : List ℕ) × IsEntry payload × (V.tells → OfEachHeld O.holds G.holds slot.now (V.disk volume.old) (λ held. slice_get held index ≡ Some payload))
+    requires live { IsCheckedOf (λ log. IsTrue (O.live log)) (λ log. IsTrue (G.live log)) O.count G.count channel.now }
+    requires index { index < channel.now.count }
+    requires channel { V.tells → (doubt : (List ℕ → List ℕ) → List (List ℕ)) × (held : List (List ℕ)) × (suspense : List (List ℕ)) × IsChecked O.holds G.holds doubt channel.now held suspense (V.disk volume.old) }
+    ensures whole { OnOk result ((payload : List ℕ) × IsEntry payload × (V.tells → OfEachHeld O.holds G.holds channel.now (V.disk volume.old) (λ held. slice_get held index ≡ Some payload))
         × Appends (S.written output.old) (S.written output.new) (line_of_entry index payload)) }
     ensures part { OnErr result ((output.new ≡ output.old)
-        ⊎ ((payload : List ℕ) × IsEntry payload × (V.tells → OfEachHeld O.holds G.holds slot.now (V.disk volume.old) (λ held. slice_get held index ≡ Some payload))
+        ⊎ ((payload : List ℕ) × IsEntry payload × (V.tells → OfEachHeld O.holds G.holds channel.now (V.disk volume.old) (λ held. slice_get held index ≡ Some payload))
         × AppendsPart (S.written output.old) (S.written output.new) (line_of_entry index payload))) }
     ensures damaged { (damage : Damage) → IsErrOf result (LogRefused.Damaged damage) → (index : ℕ) × (damage ≡ Entry index) }
     ensures sound { V.tells → (damage : Damage) → IsErrOf result (LogRefused.Damaged damage) → ⊥ }
@@ -168,7 +168,7 @@ fn write_entry<O: Ledger, G: Ledger, V: Volume, S: Sink>(
     ensures written { IsErrOf result LogRefused.Write ⊎ (S.faults output.new ≡ S.faults output.old) }
     ensures writes_later { S.faults output.old ≤ S.faults output.new }
 {
-    match read_entry(alloc, volume, slot, index) {
+    match read_checked(alloc, volume, channel, index) {
         Ok(payload) => match entry_line(alloc, index, payload.as_slice()) {
             Ok(Some(line)) => write_text(output, line.as_bytes()),
             Ok(None) => Err(LogRefused::Damaged(Damage::Entry(index))),

@@ -7,7 +7,7 @@ use Rattle.log_format.specs.declared.form.Form.TheVariants.{One, Two}
 use Rattle.keeper_channel.specs.Chan.{IsList}
 use Rattle.keeper_channel.specs.Disks.{Either}
 use Rattle.keeper_channel.specs.Slot.{HasDamage}
-use Rattle.keeper_channel.proofs.CallerLemmas.{slot_weaker}
+use Rattle.keeper_channel.proofs.CallerLemmas.{checked_weaker}
 use Rattle.keeper_table.specs.Files.{file_one, file_two, OfChannel}
 use Rattle.gated_log.specs.declared.refused.LoadRefused.TheVariants.{Store as LoadStore}
 use Rattle.std.specs.Io.{StartsWith}
@@ -19,8 +19,8 @@ use Rattle.pad_log.specs.declared.refused.LogRefused.TheVariants.{Store, Write, 
 use Rattle.pad_log.proofs.Written.{by_names, names_damage, same_refusal}
 use Rattle.pad_log.proofs.writing.write_files.Goals as goal
 
-pub load_slot-requires : goal.load_slot-requires
-load_slot-requires g c = record {
+pub load_checked-requires : goal.load_checked-requires
+load_checked-requires g c = record {
   apart = λ file owned_two owned_one.
       c.requires.apart file (subst (λ (n : List ℕ). g.G.Ledger.owns n file) c.requires.two owned_two) (subst (λ (n : List ℕ). g.O.Ledger.owns n file) c.requires.one owned_one);
 }
@@ -28,17 +28,17 @@ load_slot-requires g c = record {
 pub write_log-requires-clause-live : goal.write_log-requires-clause-live
 write_log-requires-clause-live g c =
     let O = g.O.Ledger in let G = g.G.Ledger in
-    slot_weaker (λ log. (O.name log ≡ c.args.one.now) × (O.form_of log ≡ One) × IsTrue (O.live log)) (λ log. IsTrue (O.live log))
-    (λ log. (G.name log ≡ c.args.two.now) × (G.form_of log ≡ Two) × IsTrue (G.live log)) (λ log. IsTrue (G.live log)) O.count G.count c.in-Ok.slot
+    checked_weaker (λ log. (O.name log ≡ c.args.one.now) × (O.form_of log ≡ One) × IsTrue (O.live log)) (λ log. IsTrue (O.live log))
+    (λ log. (G.name log ≡ c.args.two.now) × (G.form_of log ≡ Two) × IsTrue (G.live log)) (λ log. IsTrue (G.live log)) O.count G.count c.in-Ok.checked
     (λ log is. is.2) (λ log is. is.2) c.in-Ok.ensures.made
 
-pub write_log-requires-clause-slot : goal.write_log-requires-clause-slot
-write_log-requires-clause-slot g c = λ told. let found = c.in-Ok.ensures.found told in (g.G.Ledger.doubt Two c.args.two.now, found.0, found.1, found.3)
+pub write_log-requires-clause-channel : goal.write_log-requires-clause-channel
+write_log-requires-clause-channel g c = λ told. let found = c.in-Ok.ensures.found told in (g.G.Ledger.doubt Two c.args.two.now, found.0, found.1, found.3)
 
 pub returns-in-Ok-clause-whole : goal.returns-in-Ok-clause-whole
 returns-in-Ok-clause-whole g c =
     let O = g.O.Ledger in let G = g.G.Ledger in let files = reads (g.V.Volume.disk c.args.volume.now) in
-    let each = OfEachHeld O.holds G.holds c.in-Ok.slot (g.V.Volume.disk c.load_slot.new.volume) in
+    let each = OfEachHeld O.holds G.holds c.in-Ok.checked (g.V.Volume.disk c.load_checked.new.volume) in
     let is_list = IsListOf O.opens_as G.opens_as O.damage G.damage c.args.channel.now files in
     on_ok_weaker c.write_log.result
     (text_weaker g.V.Volume.tells (λ list. each (λ held. list ≡ held)) is_list (g.S.Sink.written c.args.output.now) (g.S.Sink.written c.write_log.new.output) (λ told list same.
@@ -52,7 +52,7 @@ returns-in-Ok-clause-whole g c =
 pub returns-in-Ok-clause-part : goal.returns-in-Ok-clause-part
 returns-in-Ok-clause-part g c =
     let O = g.O.Ledger in let G = g.G.Ledger in let files = reads (g.V.Volume.disk c.args.volume.now) in
-    let each = OfEachHeld O.holds G.holds c.in-Ok.slot (g.V.Volume.disk c.load_slot.new.volume) in
+    let each = OfEachHeld O.holds G.holds c.in-Ok.checked (g.V.Volume.disk c.load_checked.new.volume) in
     let is_list = IsListOf O.opens_as G.opens_as O.damage G.damage c.args.channel.now files in
     on_err_weaker c.write_log.result (λ written. inr
     (part_weaker g.V.Volume.tells (λ part. each (λ held. StartsWith (log_text held) part)) (λ part. (list : List (List ℕ)) × is_list list × StartsWith (log_text list) part)
@@ -77,8 +77,8 @@ pub returns-in-Ok-clause-syncs : goal.returns-in-Ok-clause-syncs
 returns-in-Ok-clause-syncs g c = λ told.
     let O = g.O.Ledger in let G = g.G.Ledger in let old = g.V.Volume.disk c.args.volume.now in
     subst (λ (d : Disk). OnlySyncs (OfChannel O.owns G.owns c.args.channel.now) old d) (sym (c.write_log.ensures.disk told))
-    (by_names (λ one two. OnlySyncs (Either (O.owns one) (G.owns two)) old (g.V.Volume.disk c.load_slot.new.volume))
-    c.args.one.now c.args.two.now (file_one c.args.channel.now) (file_two c.args.channel.now) c.requires.one c.requires.two (c.load_slot.ensures.syncs told))
+    (by_names (λ one two. OnlySyncs (Either (O.owns one) (G.owns two)) old (g.V.Volume.disk c.load_checked.new.volume))
+    c.args.one.now c.args.two.now (file_one c.args.channel.now) (file_two c.args.channel.now) c.requires.one c.requires.two (c.load_checked.ensures.syncs told))
 
 -- the load was refused, and nothing was written
 pub returns-in-Err-clause-part : goal.returns-in-Err-clause-part
@@ -98,8 +98,8 @@ returns-in-Err-clause-spoiled g c = λ told damage is. (tt, λ write. c.refused_
 pub returns-in-Err-clause-syncs : goal.returns-in-Err-clause-syncs
 returns-in-Err-clause-syncs g c = λ told.
     let O = g.O.Ledger in let G = g.G.Ledger in
-    by_names (λ one two. OnlySyncs (Either (O.owns one) (G.owns two)) (g.V.Volume.disk c.args.volume.now) (g.V.Volume.disk c.load_slot.new.volume))
-    c.args.one.now c.args.two.now (file_one c.args.channel.now) (file_two c.args.channel.now) c.requires.one c.requires.two (c.load_slot.ensures.syncs told)
+    by_names (λ one two. OnlySyncs (Either (O.owns one) (G.owns two)) (g.V.Volume.disk c.args.volume.now) (g.V.Volume.disk c.load_checked.new.volume))
+    c.args.one.now c.args.two.now (file_one c.args.channel.now) (file_two c.args.channel.now) c.requires.one c.requires.two (c.load_checked.ensures.syncs told)
 
 pub returns-in-Err-clause-store : goal.returns-in-Err-clause-store
 returns-in-Err-clause-store g c = λ is.

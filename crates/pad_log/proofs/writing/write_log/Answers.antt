@@ -8,7 +8,7 @@ use Rattle.std.specs.Io.KnownBytes.{Appends}
 use Rattle.pad_output.specs.Output.{AppendsPart}
 use Rattle.disk_volume.specs.Disk.{Disk}
 use Rattle.keeper_entry.specs.Entry.{IsEntry}
-use Rattle.keeper_channel.specs.Slot.{IsSlot}
+use Rattle.keeper_channel.specs.Checked.{IsChecked}
 use Rattle.pad_log.specs.Lines.{lines_from, line_of_entry, line_of_count, log_text}
 use Rattle.pad_log.proofs.Written.{take_more, lines_more, length_more, whole_front, lines_front, first_front, part_behind}
 use Rattle.pad_log.proofs.writing.write_log.Goals as goal
@@ -23,12 +23,12 @@ loop-index-init g c = record {
 }
 
 pub write_entry-requires-clause-index : goal.write_entry-requires-clause-index
-write_entry-requires-clause-index g c = omega (arith, c.count-total.ensures)
+write_entry-requires-clause-index g c = omega (arith)
 
-pub write_entry-requires-clause-slot : goal.write_entry-requires-clause-slot
-write_entry-requires-clause-slot g c = λ told.
-    let given = c.requires.slot told in
-    (given.0, given.1, given.2, subst (λ (d : Disk). IsSlot g.O.Ledger.holds g.G.Ledger.holds given.0 c.args.slot.now given.1 given.2 d) (sym (c.loop-index.invariant.disk told)) given.3)
+pub write_entry-requires-clause-channel : goal.write_entry-requires-clause-channel
+write_entry-requires-clause-channel g c = λ told.
+    let given = c.requires.channel told in
+    (given.0, given.1, given.2, subst (λ (d : Disk). IsChecked g.O.Ledger.holds g.G.Ledger.holds given.0 c.args.channel.now given.1 given.2 d) (sym (c.loop-index.invariant.disk told)) given.3)
 
 pub loop-index-preserved : goal.loop-index-preserved
 loop-index-preserved g c =
@@ -42,7 +42,7 @@ loop-index-preserved g c =
         All-push IsEntry before.0 next.0 before.1 next.1,
         length_more index before.0 next.0 before.2,
         (λ told doubt held suspense is.
-            let here = subst (λ (d : Disk). IsSlot g.O.Ledger.holds g.G.Ledger.holds doubt c.args.slot.now held suspense d) (sym (c.loop-index.invariant.disk told)) is in
+            let here = subst (λ (d : Disk). IsChecked g.O.Ledger.holds g.G.Ledger.holds doubt c.args.channel.now held suspense d) (sym (c.loop-index.invariant.disk told)) is in
             ap (λ (l : List (List ℕ)). l ++ next.0 ∷ []) (before.3 told doubt held suspense is) ∙ take_more index held next.0 (next.2 told doubt held suspense here)),
         subst (Appends old new) (lines_more index before.0 next.0 before.2) (Appends-trans old mid new (lines_from 0 before.0) (line_of_entry index next.0) before.4 next.3),
       );
@@ -75,7 +75,7 @@ returns-in_err-write_entry-clause-part g c = let p = err_from_is_err_and c.from_
             (
               (list, All-push IsEntry before.0 next.0 before.1 next.1, lines_front list part.0 part.1),
               λ told doubt held suspense is.
-                  let here = subst (λ (d : Disk). IsSlot g.O.Ledger.holds g.G.Ledger.holds doubt c.args.slot.now held suspense d) (sym (c.loop-index.invariant.disk told)) is in
+                  let here = subst (λ (d : Disk). IsChecked g.O.Ledger.holds g.G.Ledger.holds doubt c.args.channel.now held suspense d) (sym (c.loop-index.invariant.disk told)) is in
                   let first = ap (λ (l : List (List ℕ)). l ++ next.0 ∷ []) (before.3 told doubt held suspense is) ∙ take_more index held next.0 (next.2 told doubt held suspense here) in
                   first_front (index + 1) held part.0 (subst (λ (l : List (List ℕ)). StartsWith (lines_from 0 l) part.0) first part.1),
             ),
@@ -88,16 +88,16 @@ pub returns-clause-whole : goal.returns-clause-whole
 returns-clause-whole g c =
     let old = g.S.Sink.written c.args.output.now in let mid = g.S.Sink.written c.loop-index.output in let new = g.S.Sink.written c.write_count.new.output in
     let before = c.loop-index.invariant.written in
-    let long : c.count-total.result ≡ length before.0 = omega (arith, before.2) in
+    let long : c.args.channel.now.count ≡ length before.0 = omega (arith, before.2) in
     on_ok_weaker c.write_count.result (λ last. (
       log_text before.0,
       (
         before.0,
         before.1,
-        (λ told doubt held suspense is. before.3 told doubt held suspense is ∙ take_all c.loop-index.index held (omega (arith, c.count-total.ensures, is.indexed.counted))),
+        (λ told doubt held suspense is. before.3 told doubt held suspense is ∙ take_all c.loop-index.index held (omega (arith, is.counted))),
         refl,
       ),
-      subst (Appends old new) (ap (λ (n : ℕ). lines_from 0 before.0 ++ line_of_count n) long) (Appends-trans old mid new (lines_from 0 before.0) (line_of_count c.count-total.result) before.4 last),
+      subst (Appends old new) (ap (λ (n : ℕ). lines_from 0 before.0 ++ line_of_count n) long) (Appends-trans old mid new (lines_from 0 before.0) (line_of_count c.args.channel.now.count) before.4 last),
     )) c.write_count.ensures.whole
 
 -- the last line was not written whole
@@ -105,15 +105,15 @@ pub returns-clause-part : goal.returns-clause-part
 returns-clause-part g c =
     let old = g.S.Sink.written c.args.output.now in let mid = g.S.Sink.written c.loop-index.output in let new = g.S.Sink.written c.write_count.new.output in
     let before = c.loop-index.invariant.written in
-    let long : c.count-total.result ≡ length before.0 = omega (arith, before.2) in
+    let long : c.args.channel.now.count ≡ length before.0 = omega (arith, before.2) in
     on_err_weaker c.write_count.result (λ last.
     let part = subst (AppendsPart old new) (ap (λ (n : ℕ). lines_from 0 before.0 ++ line_of_count n) long)
-    (part_behind old mid new (lines_from 0 before.0) (line_of_count c.count-total.result) before.4 last) in (
+    (part_behind old mid new (lines_from 0 before.0) (line_of_count c.args.channel.now.count) before.4 last) in (
       part.0,
       (
         (before.0, before.1, part.1),
         λ told doubt held suspense is. subst (λ (l : List (List ℕ)). StartsWith (log_text l) part.0)
-            (before.3 told doubt held suspense is ∙ take_all c.loop-index.index held (omega (arith, c.count-total.ensures, is.indexed.counted))) part.1,
+            (before.3 told doubt held suspense is ∙ take_all c.loop-index.index held (omega (arith, is.counted))) part.1,
       ),
       part.2,
     )) c.write_count.ensures.part

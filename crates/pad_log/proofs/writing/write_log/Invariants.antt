@@ -9,7 +9,7 @@ use Rattle.pad_log.proofs.writing.write_log.Given as goal
 abbrev pub invariant-loop-index : goal.invariant-loop-index
 invariant-loop-index g l = let V = g.V.Volume in let S = g.S.Sink in record {
   written : (list : List (List ℕ)) × AreEntries list × (length list ≡ l.index)
-      × (V.tells → OfEachHeld g.O.Ledger.holds g.G.Ledger.holds l.slot (V.disk l.fn.volume) (λ held. list ≡ take l.index held))
+      × (V.tells → OfEachHeld g.O.Ledger.holds g.G.Ledger.holds l.channel (V.disk l.fn.volume) (λ held. list ≡ take l.index held))
       × Appends (S.written l.fn.output) (S.written l.output) (lines_from 0 list);
   disk : V.tells → V.disk l.volume ≡ V.disk l.fn.volume;
   follows : V.follows l.fn.volume l.volume;
