@@ -193,7 +193,11 @@ impl<R: Files<File = File> + Drop> Folder<R> {
         requires { self.old < MOST_OPEN }
     {
         let index = self.files.len();
-        if self.files.push(OpenFile::new(name, opened)).is_err() {
+        if self
+            .files
+            .push(OpenFile::new(self.alloc, name, opened))
+            .is_err()
+        {
             return Err(ErrorKind::OutOfMemory.into());
         }
         Ok(self.used(index))

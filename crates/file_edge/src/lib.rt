@@ -12,6 +12,7 @@
 //! ```
 #![tactic(auto)]
 
+mod ahead;
 mod file_volume;
 mod folder;
 mod lost;

@@ -1,11 +1,16 @@
 ghost use Rattle.std.specs.Prelude.{◌≤◌, length, IfOk};
 
+use crate::ahead::Ahead;
 use crate::name::Name;
+use std::alloc::Global;
 use std::fs::{File, OpenOptions};
 use std::io::{self, ErrorKind};
 use std::os::fd::AsRawFd;
 use std::os::unix::fs::FileExt;
 use std::rt::Files;
+
+/// How many bytes are read where fewer are asked for, so that entries that follow one another are read together.
+const AHEAD_BYTES: usize = 16 << 10;
 
 /// A file of the folder that is open.
 #[derive(Drop)]
@@ -14,16 +19,19 @@ pub(crate) struct OpenFile {
     file: File,
     is_pending: bool,
     used: u64,
+    // What was read and not changed since.
+    ahead: Ahead,
 }
 
 impl OpenFile {
     /// This file, under its name in the folder. Nothing is pending on it.
-    pub(crate) fn new(name: Name, file: File) -> OpenFile {
+    pub(crate) fn new(alloc: Global, name: Name, file: File) -> OpenFile {
         OpenFile {
             name,
             file,
             is_pending: false,
             used: 0,
+            ahead: Ahead::new(alloc),
         }
     }
 
@@ -61,29 +69,44 @@ impl OpenFile {
         Ok(self.file.metadata()?.len())
     }
 
-    /// Reads from an offset on until the buffer is full or the file ends, and answers how many bytes came.
-    pub(crate) fn read_at(&self, at: u64, buf: &mut [u8]) -> io::Result<usize>
+    /// Reads from an offset on until the buffer is full or the file ends, and answers how many bytes came. What this run wrote is
+    /// there; what others write to the file may be missed.
+    pub(crate) fn read_at(&mut self, at: u64, buf: &mut [u8]) -> io::Result<usize>
         ensures { IfOk result (λ count. count ≤ length buf.new) }
     {
-        let mut count = 0;
-        for _ in 0..u64::MAX {
-            if count >= buf.len() {
-                break;
+        if buf.len() >= AHEAD_BYTES {
+            return read_from(&self.file, at, buf);
+        }
+        if self.ahead.bytes_from(at, buf.len()).len() < buf.len() && !self.read_ahead(at) {
+            return read_from(&self.file, at, buf);
+        }
+        let known = self.ahead.bytes_from(at, buf.len());
+        let count = known.len().min(buf.len());
+        buf[..count].copy_from_slice(&known[..count]);
+        Ok(count)
+    }
+
+    /// Reads ahead from an offset on. It answers whether that went well.
+    fn read_ahead(&mut self, at: u64) -> bool {
+        let Some(buffer) = self.ahead.buffer(at, AHEAD_BYTES) else {
+            return false;
+        };
+        match read_from(&self.file, at, buffer) {
+            Ok(count) => {
+                self.ahead.came(count);
+                true
             }
-            let offset = at.saturating_add(count as u64);
-            match self.file.read_at(&mut buf[count..], offset) {
-                Ok(0) => break,
-                Ok(more) => count += more,
-                Err(error) if error.kind() == ErrorKind::Interrupted => {}
-                Err(error) => return Err(error),
+            Err(_) => {
+                self.ahead.forget();
+                false
             }
         }
-        Ok(count)
     }
 
     /// Writes all of a piece at an offset.
     pub(crate) fn write_at(&mut self, at: u64, piece: &[u8]) -> io::Result<()> {
         self.is_pending = true;
+        self.ahead.forget();
         self.file.write_all_at(piece, at)
     }
 
@@ -93,6 +116,7 @@ impl OpenFile {
             return Err(ErrorKind::InvalidInput.into());
         }
         self.is_pending = true;
+        self.ahead.forget();
         self.file.set_len(to)
     }
 
@@ -105,11 +129,32 @@ impl OpenFile {
             }
             Err(error) => {
                 // What the system keeps in memory may never have reached the disk: a later run is to read the disk.
+                self.ahead.forget();
                 let _ = libc::posix_fadvise(self.file.as_raw_fd(), 0, 0, libc::POSIX_FADV_DONTNEED);
                 Err(error)
             }
         }
     }
+}
+
+/// Reads from an offset on until the buffer is full or the file ends, and answers how many bytes came.
+fn read_from(file: &File, at: u64, buf: &mut [u8]) -> io::Result<usize>
+    ensures { IfOk result (λ count. count ≤ length buf.new) }
+{
+    let mut count = 0;
+    for _ in 0..u64::MAX {
+        if count >= buf.len() {
+            break;
+        }
+        let offset = at.saturating_add(count as u64);
+        match file.read_at(&mut buf[count..], offset) {
+            Ok(0) => break,
+            Ok(more) => count += more,
+            Err(error) if error.kind() == ErrorKind::Interrupted => {}
+            Err(error) => return Err(error),
+        }
+    }
+    Ok(count)
 }
 
 /// Opens a file that is there; for reading alone if it may not be written. What is no file of bytes is refused.

@@ -32,6 +32,13 @@ fn a_folder_keeps_a_file(rt: HostRuntime) -> Result<(), Fail> {
     let mut buf = [0u8; 4];
     assert_eq!(rt; volume.read_at("a", 3, &mut buf).ok(), Some(3));
     assert_eq!(rt; &buf[..3], b"def".as_slice());
+    assert!(rt; volume.write_at("a", 4, b"xyz").is_ok());
+    assert_eq!(rt; volume.read_at("a", 3, &mut buf).ok(), Some(4));
+    assert_eq!(rt; &buf, b"dxyz");
+    assert_eq!(rt; volume.read_at("a", 7, &mut buf).ok(), Some(0));
+    assert!(rt; volume.cut("a", 5).is_ok());
+    assert_eq!(rt; volume.read_at("a", 2, &mut buf).ok(), Some(3));
+    assert_eq!(rt; &buf[..3], b"cdx".as_slice());
     assert!(rt; volume.cut("a", 2).is_ok());
     assert!(rt; volume.sync("a").is_ok());
     assert_eq!(rt; length_of(&mut volume, "a"), Some(2));
