@@ -3,7 +3,7 @@ use Rattle.std.proofs.Common.{◌≡◌, ◌∙◌, ℕ, zero, suc, ◌+◌, Lis
 use Rattle.std.proofs.lemmas.List.{append-nil, length-append}
 use Rattle.std.proofs.lemmas.Option.{slice_get_within, get_or_from_slice_get}
 use Rattle.std.proofs.Math.Seq.{take-append_seam, take-suc}
-use Rattle.std.proofs.KnownBytes.{Appends-trans, starts_with_rest}
+use Rattle.std.proofs.KnownBytes.{Appends-nil, Appends-trans, starts_with_rest}
 use Rattle.std.specs.Io.{StartsWith}
 use Rattle.std.specs.Io.KnownBytes.{Appends}
 use Rattle.std.specs.Prelude.{slice_get}
@@ -13,6 +13,7 @@ use Rattle.gated_log.specs.declared.refused.LoadRefused.TheVariants.{Damaged as 
 use Rattle.keeper_channel.specs.Logs.{NamesDamage}
 use Rattle.pad_output.specs.Output.{AppendsPart}
 use Rattle.pad_log.specs.Lines.{line_of_entry, line_of_count, lines_from, log_text}
+use Rattle.pad_log.specs.Log.{Gathers}
 
 -- the payloads before an index and the one that has it
 pub take_more : (n : ℕ) (payloads : List (List ℕ)) (payload : List ℕ) → slice_get payloads n ≡ Some payload → take n payloads ++ payload ∷ [] ≡ take (n + 1) payloads
@@ -90,3 +91,38 @@ same_refusal refused other is = cc
 -- the damage that a refused load names
 pub names_damage : (is : Damage → Type 0) (refused : LoadRefused) (damage : Damage) → refused ≡ LoadDamaged damage → NamesDamage is refused → is damage
 names_damage is refused damage same names = subst (λ (r : LoadRefused). NamesDamage is r) same names
+
+-- nothing is written yet
+pub gathered_none : (old : Option (List ℕ)) (before after text : List ℕ) → after ≡ before ++ text → Gathers old old before after text
+gathered_none old before after text waits = ([], Appends-nil old, waits)
+
+-- all is written
+pub gathered_all : (old new : Option (List ℕ)) (before lines after text : List ℕ) → lines ≡ before ++ text → Appends old new lines → after ≡ [] → Gathers old new before after text
+gathered_all old new before lines after text are written none =
+    (lines, written, ap (λ (rest : List ℕ). lines ++ rest) none ∙ append-nil lines ∙ are)
+
+-- nothing of a text is written
+pub part_none : (old : Option (List ℕ)) (text : List ℕ) → AppendsPart old old text
+part_none old text = ([], refl, Appends-nil old)
+
+-- more comes behind what waits
+pub gathered_more : (old mid new : Option (List ℕ)) (waits after text more : List ℕ) → Gathers old mid [] waits text → Gathers mid new waits after more → Gathers old new [] after (text ++ more)
+gathered_more old mid new waits after text more first next = (
+  first.0 ++ next.0,
+  Appends-trans old mid new first.0 next.0 first.1 next.1,
+  append_assoc first.0 next.0 after ∙ ap (λ (rest : List ℕ). first.0 ++ rest) next.2 ∙ sym (append_assoc first.0 waits more) ∙ ap (λ (front : List ℕ). front ++ more) first.2,
+)
+
+-- what waits and a text behind it are written
+pub gathered_written : (old mid new : Option (List ℕ)) (waits text more : List ℕ) → Gathers old mid [] waits text → Appends mid new (waits ++ more) → Appends old new (text ++ more)
+gathered_written old mid new waits text more first next =
+    subst (Appends old new) (sym (append_assoc first.0 waits more) ∙ ap (λ (front : List ℕ). front ++ more) first.2) (Appends-trans old mid new first.0 (waits ++ more) first.1 next)
+
+-- a part of them is
+pub gathered_part : (old mid new : Option (List ℕ)) (waits text more : List ℕ) → Gathers old mid [] waits text → AppendsPart mid new (waits ++ more) → AppendsPart old new (text ++ more)
+gathered_part old mid new waits text more first next =
+    subst (AppendsPart old new) (sym (append_assoc first.0 waits more) ∙ ap (λ (front : List ℕ). front ++ more) first.2) (part_behind old mid new first.0 (waits ++ more) first.1 next)
+
+-- what is written of a text whose rest waits
+pub gathered_front : (old new : Option (List ℕ)) (waits text : List ℕ) → Gathers old new [] waits text → AppendsPart old new text
+gathered_front old new waits text first = (first.0, front_of text first.0 waits (sym first.2), first.1)

@@ -1,6 +1,7 @@
 -- What is written of a list. Over every volume it tells entries; where the volume tells what its files hold, it tells those of the list.
-use Rattle.std.specs.Prelude.{◌≡◌, ℕ, List}
+use Rattle.std.specs.Prelude.{◌≡◌, ℕ, List, ◌++◌, Option}
 use Rattle.std.specs.Io.{StartsWith}
+use Rattle.std.specs.Io.KnownBytes.{Appends}
 use Rattle.disk_volume.specs.Disk.{Disk}
 use Rattle.keeper_channel.specs.Checked.{IsChecked}
 use Rattle.keeper_channel.specs.Entries.{AreEntries}
@@ -19,3 +20,7 @@ IsLogPart told is_it part = ((list : List (List ℕ)) × AreEntries list × Star
 abbrev pub OfEachHeld : {O G : Type 0} (holds_one : O → List (List ℕ) → Disk → Type 0) (holds_two : G → List (List ℕ) → Disk → Type 0) → CheckedChannel O G → Disk
     → (List (List ℕ) → Type 0) → Type 0
 OfEachHeld holds_one holds_two channel disk is_it = (doubt : (List ℕ → List ℕ) → List (List ℕ)) (held suspense : List (List ℕ)) → IsChecked holds_one holds_two doubt channel held suspense disk → is_it held
+
+-- a text came behind what waited: a front of both is written, and the rest waits
+abbrev pub Gathers : (old new : Option (List ℕ)) → (before after text : List ℕ) → Type 0
+Gathers old new before after text = (done : List ℕ) × Appends old new done × (done ++ after ≡ before ++ text)

@@ -1,4 +1,4 @@
-ghost use Rattle.std.specs.Prelude.{◌≡◌, ◌⊎◌, ◌<◌, ◌≤◌, List, ℕ, Some, slice_get, OnOk, OnErr, IsErrOf, IsTrue};
+ghost use Rattle.std.specs.Prelude.{◌≡◌, ◌⊎◌, ◌++◌, ◌<◌, ◌≤◌, List, ℕ, Some, slice_get, OnOk, OnErr, IsErrOf, IsTrue};
 ghost use Rattle.std.specs.Io.{StartsWith};
 ghost use Rattle.std.specs.Io.KnownBytes.{Appends};
 ghost use Rattle.pad_edge.specs.Count.{Rose};
@@ -12,7 +12,7 @@ ghost use Rattle.keeper_channel.specs.Checked.{IsChecked, IsCheckedOf};
 ghost use Rattle.keeper_table.specs.Files.{file_one, file_two, OfChannel};
 ghost use Rattle.pad_log.specs.Channel.{IsDamageOf, IsListOf};
 ghost use Rattle.pad_log.specs.Lines.{line_of_entry, line_of_count, log_text};
-ghost use Rattle.pad_log.specs.Log.{IsLogText, IsLogPart, OfEachHeld};
+ghost use Rattle.pad_log.specs.Log.{Gathers, IsLogText, IsLogPart, OfEachHeld};
 
 use crate::lines::{count_line, entry_line};
 use crate::refused::LogRefused;
@@ -25,6 +25,9 @@ use netflux_codec::Channel;
 use pad_edge::Sink;
 use pad_output::write_all;
 use std::alloc::Global;
+
+/// Lines go out together once they have so many bytes: 64 KiB.
+const PIECE_BYTES: usize = 64 << 10;
 
 /// Writes the log of a channel: a line for each entry of its files, and one that tells how many there are. The files are only synced.
 /// At a refusal nothing is written, or a part from the front. `Store` comes only if a call of the volume failed, `Write` only if a write
@@ -134,29 +137,31 @@ pub fn write_log<O: Ledger, G: Ledger, V: Volume, S: Sink>(
     ensures writes_later { S.faults output.old ≤ S.faults output.new }
 {
     let total = channel.count;
-    // One entry at a time, so that a long log takes no more memory than its longest entry.
+    // One entry at a time, so that a long log takes no more memory than its longest entry and the lines that go out together.
+    let mut lines = Vec::new(alloc);
     for index in 0..total {
-        write_entry(alloc, volume, channel, index, output)?;
+        write_entry(alloc, volume, channel, index, &mut lines, output)?;
     }
-    write_count(alloc, total, output)
+    write_count(alloc, total, &mut lines, output)
 }
 
-/// Writes the line of an entry.
+/// Puts the line of an entry behind others, and writes all once they are many.
 fn write_entry<O: Ledger, G: Ledger, V: Volume, S: Sink>(
     alloc: Global,
     volume: &mut V,
     channel: &CheckedChannel<O, G>,
     index: u64,
+    lines: &mut Vec<u8>,
     output: &mut S,
 ) -> Result<(), LogRefused>
     requires live { IsCheckedOf (λ log. IsTrue (O.live log)) (λ log. IsTrue (G.live log)) O.count G.count channel.now }
     requires index { index < channel.now.count }
     requires channel { V.tells → (doubt : (List ℕ → List ℕ) → List (List ℕ)) × (held : List (List ℕ)) × (suspense : List (List ℕ)) × IsChecked O.holds G.holds doubt channel.now held suspense (V.disk volume.old) }
     ensures whole { OnOk result ((payload : List ℕ) × IsEntry payload × (V.tells → OfEachHeld O.holds G.holds channel.now (V.disk volume.old) (λ held. slice_get held index ≡ Some payload))
-        × Appends (S.written output.old) (S.written output.new) (line_of_entry index payload)) }
+        × Gathers (S.written output.old) (S.written output.new) lines.old.items lines.new.items (line_of_entry index payload)) }
     ensures part { OnErr result ((output.new ≡ output.old)
         ⊎ ((payload : List ℕ) × IsEntry payload × (V.tells → OfEachHeld O.holds G.holds channel.now (V.disk volume.old) (λ held. slice_get held index ≡ Some payload))
-        × AppendsPart (S.written output.old) (S.written output.new) (line_of_entry index payload))) }
+        × AppendsPart (S.written output.old) (S.written output.new) (lines.old.items ++ line_of_entry index payload))) }
     ensures damaged { (damage : Damage) → IsErrOf result (LogRefused.Damaged damage) → (index : ℕ) × (damage ≡ Entry index) }
     ensures sound { V.tells → (damage : Damage) → IsErrOf result (LogRefused.Damaged damage) → ⊥ }
     ensures disk { V.tells → V.disk volume.new ≡ V.disk volume.old }
@@ -170,7 +175,7 @@ fn write_entry<O: Ledger, G: Ledger, V: Volume, S: Sink>(
 {
     match read_checked(alloc, volume, channel, index) {
         Ok(payload) => match entry_line(alloc, index, payload.as_slice()) {
-            Ok(Some(line)) => write_text(output, line.as_bytes()),
+            Ok(Some(line)) => gather(output, lines, line.as_bytes()),
             Ok(None) => Err(LogRefused::Damaged(Damage::Entry(index))),
             Err(error) => Err(LogRefused::NoMemory(error)),
         },
@@ -181,20 +186,52 @@ fn write_entry<O: Ledger, G: Ledger, V: Volume, S: Sink>(
     }
 }
 
-/// Writes the line that tells how many entries there are.
-fn write_count<S: Sink>(alloc: Global, total: u64, output: &mut S) -> Result<(), LogRefused>
-    ensures whole { OnOk result (Appends (S.written output.old) (S.written output.new) (line_of_count total)) }
-    ensures part { OnErr result (AppendsPart (S.written output.old) (S.written output.new) (line_of_count total)) }
+/// Puts a text behind others, and writes all once they are many.
+#[tactic(auto, using(crate::proofs::Written::gathered_none, crate::proofs::Written::gathered_all, crate::proofs::Written::part_none))]
+fn gather<S: Sink>(output: &mut S, lines: &mut Vec<u8>, text: &[u8]) -> Result<(), LogRefused>
+    ensures whole { OnOk result (Gathers (S.written output.old) (S.written output.new) lines.old.items lines.new.items text.now) }
+    ensures part { OnErr result (AppendsPart (S.written output.old) (S.written output.new) (lines.old.items ++ text.now)) }
     ensures store { IsErrOf result LogRefused.Store → ⊥ }
     ensures sound { (damage : Damage) → IsErrOf result (LogRefused.Damaged damage) → ⊥ }
     ensures write { IsErrOf result LogRefused.Write → Rose (S.faults output.old) (S.faults output.new) }
     ensures written { IsErrOf result LogRefused.Write ⊎ (S.faults output.new ≡ S.faults output.old) }
     ensures writes_later { S.faults output.old ≤ S.faults output.new }
 {
-    match count_line(alloc, total) {
-        Ok(line) => write_text(output, line.as_bytes()),
-        Err(error) => Err(LogRefused::NoMemory(error)),
+    if let Err(error) = lines.extend_from_slice(text) {
+        return Err(LogRefused::NoMemory(error));
     }
+    if lines.len() < PIECE_BYTES {
+        return Ok(());
+    }
+    write_text(output, lines.as_slice())?;
+    lines.clear();
+    Ok(())
+}
+
+/// Writes what waits, and behind it the line that tells how many entries there are.
+#[tactic(auto, using(crate::proofs::Written::part_none))]
+fn write_count<S: Sink>(
+    alloc: Global,
+    total: u64,
+    lines: &mut Vec<u8>,
+    output: &mut S,
+) -> Result<(), LogRefused>
+    ensures whole { OnOk result (Appends (S.written output.old) (S.written output.new) (lines.old.items ++ line_of_count total)) }
+    ensures part { OnErr result (AppendsPart (S.written output.old) (S.written output.new) (lines.old.items ++ line_of_count total)) }
+    ensures store { IsErrOf result LogRefused.Store → ⊥ }
+    ensures sound { (damage : Damage) → IsErrOf result (LogRefused.Damaged damage) → ⊥ }
+    ensures write { IsErrOf result LogRefused.Write → Rose (S.faults output.old) (S.faults output.new) }
+    ensures written { IsErrOf result LogRefused.Write ⊎ (S.faults output.new ≡ S.faults output.old) }
+    ensures writes_later { S.faults output.old ≤ S.faults output.new }
+{
+    let line = match count_line(alloc, total) {
+        Ok(line) => line,
+        Err(error) => return Err(LogRefused::NoMemory(error)),
+    };
+    if let Err(error) = lines.extend_from_slice(line.as_bytes()) {
+        return Err(LogRefused::NoMemory(error));
+    }
+    write_text(output, lines.as_slice())
 }
 
 /// Writes a text.
