@@ -32,7 +32,7 @@ use Rattle.hub_laws.specs.Told.{AreTold, IsHeld, IsHeldContent, HaveDigits}
 use Rattle.hub_laws.specs.Laws.{NothingIsInvented}
 use Rattle.hub_laws.proofs.Telling.{F, told_append, told_each, told_error, fine_step}
 
-content_last : (moment : ℕ) (sender content : List ℕ) → length sender ≡ 32 → content_in (payload_of moment sender content) ≡ content
+pub content_last : (moment : ℕ) (sender content : List ℕ) → length sender ≡ 32 → content_in (payload_of moment sender content) ≡ content
 content_last moment sender content long =
     ap (drop 40) (sym (append_assoc (to_be_bytes w64 moment) sender content))
     ∙ drop_at (to_be_bytes w64 moment ++ sender) content 40 (omega (arith, length-append (to_be_bytes w64 moment) sender))

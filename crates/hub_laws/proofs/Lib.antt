@@ -2,3 +2,4 @@ pub mod Telling
 pub mod Answering
 pub mod Keeping
 pub mod Running
+pub mod Acknowledging

@@ -1,6 +1,7 @@
 //! The laws of a hub's steps. Each function does nothing, or calls the laws on which it stands: its contract is the law.
-ghost use Rattle.hub_laws.specs.Laws.{NothingIsInvented, HeldGrows, RunsInventNothing};
+ghost use Rattle.hub_laws.specs.Laws.{NothingIsInvented, HeldGrows, RunsInventNothing, AcknowledgedAreHeld};
 
+use netflux_codec::texts_spell_one_request;
 use netflux_core::Keep;
 
 /// Nothing is invented: each content that a step tells is an entry of what the channel holds after the step, or is for a connection.
@@ -19,4 +20,11 @@ pub fn runs_invent_nothing<K: Keep>()
 {
     nothing_is_invented::<K>();
     held_grows::<K>();
+}
+
+/// What is acknowledged is held: the acknowledgement of a message to a channel says that its content is an entry of what the channel holds.
+pub fn acknowledged_are_held<K: Keep>()
+    ensures { AcknowledgedAreHeld K.logs }
+{
+    texts_spell_one_request();
 }
