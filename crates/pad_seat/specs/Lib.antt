@@ -1,0 +1,4 @@
+pub mod State
+pub mod Texts
+pub mod Lines
+pub mod Calls
