@@ -3,3 +3,5 @@ pub mod Answering
 pub mod Keeping
 pub mod Running
 pub mod Acknowledging
+pub mod Numbers
+pub mod Small

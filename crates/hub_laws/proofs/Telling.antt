@@ -30,11 +30,11 @@ module _ (P : Reply → Type 0) where
   told_each to said each [] = tt
   told_each to said each (number ∷ numbers) = ((said number, refl, each number), told_each to said each numbers)
 
-  told_if : (b : Bool) (one other : List Out × Rooms) → AreTold P one.0 → AreTold P other.0 → AreTold P (if b then one else other).0
+  pub told_if : (b : Bool) (one other : List Out × Rooms) → AreTold P one.0 → AreTold P other.0 → AreTold P (if b then one else other).0
   told_if true one other h k = h
   told_if false one other h k = k
 
-  told_outs_if : (b : Bool) (one other : List Out) → AreTold P one → AreTold P other → AreTold P (if b then one else other)
+  pub told_outs_if : (b : Bool) (one other : List Out) → AreTold P one → AreTold P other → AreTold P (if b then one else other)
   told_outs_if true one other h k = h
   told_outs_if false one other h k = k
 

@@ -1,5 +1,6 @@
 //! The laws of a hub's steps. Each function does nothing, or calls the laws on which it stands: its contract is the law.
 ghost use Rattle.hub_laws.specs.Laws.{NothingIsInvented, HeldGrows, RunsInventNothing, AcknowledgedAreHeld};
+ghost use Rattle.hub_laws.specs.Small.{ToldAreSmall};
 
 use netflux_codec::texts_spell_one_request;
 use netflux_core::Keep;
@@ -28,3 +29,8 @@ pub fn acknowledged_are_held<K: Keep>()
 {
     texts_spell_one_request();
 }
+
+/// What is told clients that ask for histories is founded on what is held, and has small numbers.
+pub fn told_are_small<K: Keep>()
+    ensures { ToldAreSmall K.logs }
+{}
