@@ -1,3 +1,5 @@
 pub mod Staying
 pub mod Leaving
 pub mod Acting
+pub mod Reading
+pub mod Telling
