@@ -1,0 +1,6 @@
+mod Cut
+mod Damaged
+mod Joined
+mod Named
+mod Rested
+mod Single

@@ -1,0 +1,5 @@
+pub mod Damages
+pub mod Doubt
+pub mod Joined
+pub mod Names
+pub mod Rests
