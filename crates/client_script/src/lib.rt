@@ -16,3 +16,6 @@ mod words;
 
 pub use hearing::Hearing;
 pub use scripted::ScriptedClient;
+
+#[cfg(test)]
+mod tests;
